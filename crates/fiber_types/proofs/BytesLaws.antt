@@ -83,6 +83,14 @@ pub sets-append : (a b l : List ℕ) (i : ℕ) → sets l i (a ++ b) ≡ sets (s
 sets-append [] b l i = rw add-zero
 sets-append (x ∷ a) b l i = sets-append a b (set l i x) (suc i) ∙ ap (λ (k : ℕ). sets (sets (set l i x) (suc i) a) k b) (simp (suc-add, add-suc))
 
+-- a run of stores from the front, and another right behind it
+pub sets-then : (o a b : List ℕ) (j : ℕ) {l₁ l₂ : List ℕ} → l₁ ≡ sets o 0 a → l₂ ≡ sets l₁ j b → j ≡ length a → l₂ ≡ sets o 0 (a ++ b)
+sets-then o a b j e f g =
+    f
+    ∙ ap (λ (k : List ℕ). sets k j b) e
+    ∙ ap (λ (n : ℕ). sets (sets o 0 a) n b) (g ∙ sym (zero-add (length a)))
+    ∙ sym (sets-append a b o 0)
+
 pub sets-out : (vs l : List ℕ) (i : ℕ) → length l ≤ i → sets l i vs ≡ l
 sets-out [] l i h = refl
 sets-out (v ∷ vs) l i h = rw (set-out l i v h) (sets-out vs l (suc i) (omega arith))

@@ -1,7 +1,6 @@
 -- Laws of `specs/Records.antt`: the definitions by their tests, and both directions of each layout.
 -- Assumes nothing.
 use Prim.Native.Nat.{ℕ, zero, suc, _+_, _-_, _*_, _/_, _%_, _^_, _≤_, _<_}
-use native.Mathlib.Nat.{zero-add}
 use native.Mathlib.Omega.{arith}
 use mathlib.Core.Path.{_≡_, refl, sym, ap, _∙_}
 use mathlib.Core.Bool.{Bool, true, false, cond}
@@ -19,7 +18,7 @@ use Rattle.fiber_types.specs.declared.unlock.Unlock.{Unlock}
 use Rattle.fiber_types.specs.declared.unlock.UnlockRead.the-variants as unlock·
 use Rattle.fiber_types.specs.Bytes.{part, le, leBytes}
 use Rattle.fiber_types.specs.Records.{Outcome, outcome, amountAt, known, isOffered, tlcBytes, readTlc, wroteTlc, witnessLen, flagByte, unlockBytes, readUnlock, wroteUnlock}
-use Rattle.fiber_types.proofs.BytesLaws.{leBytes-length, sets-append, le-none}
+use Rattle.fiber_types.proofs.BytesLaws.{leBytes-length, sets-then, le-none}
 
 -- ---- reading
 
@@ -97,14 +96,6 @@ module _ (ok : Bool) (bytes out : List ℕ) where
     unfolding outcome
     outcome-whole g out′ d = (rw (e, f, le-leb n (length out) g), rw (e, f, le-leb n (length out) g) d)
 
--- a run of stores from the front, and another right behind it
-then : (o a b : List ℕ) (j : ℕ) {l₁ l₂ : List ℕ} → l₁ ≡ sets o 0 a → l₂ ≡ sets l₁ j b → j ≡ length a → l₂ ≡ sets o 0 (a ++ b)
-then o a b j e f g =
-    f
-    ∙ ap (λ (k : List ℕ). sets k j b) e
-    ∙ ap (λ (n : ℕ). sets (sets o 0 a) n b) (g ∙ sym (zero-add (length a)))
-    ∙ sym (sets-append a b o 0)
-
 module _ (t : Tlc) (hash remote local : List ℕ) where
   pub tlcBytes-length : length (tlcBytes t hash remote local) ≡ 25 + (length hash + length remote + length local)
   unfolding tlcBytes
@@ -129,11 +120,11 @@ module _ (t : Tlc) (hash remote local : List ℕ) where
       let n₃ : length a₃ ≡ 17 + length hash = length-append a₂ hash ∙ ap (λ (n : ℕ). n + length hash) n₂ in
       let n₄ : length a₄ ≡ 17 + length hash + length remote = length-append a₃ remote ∙ ap (λ (n : ℕ). n + length remote) n₃ in
       let n₅ : length (a₄ ++ local) ≡ 17 + length hash + length remote + length local = length-append a₄ local ∙ ap (λ (n : ℕ). n + length local) n₄ in
-      let p₂ = then o a₁ high 9 e₁ e₂ (sym n₁) in
-      let p₃ = then o a₂ hash 17 p₂ e₃ (sym n₂) in
-      let p₄ = then o a₃ remote (17 + length hash) p₃ e₄ (sym n₃) in
-      let p₅ = then o a₄ local (17 + length hash + length remote) p₄ e₅ (sym n₄) in
-      then o (a₄ ++ local) (leBytes 8 (t .expiry)) (17 + length hash + length remote + length local) p₅ e₆ (sym n₅) ∙ ap (sets o 0) regroup
+      let p₂ = sets-then o a₁ high 9 e₁ e₂ (sym n₁) in
+      let p₃ = sets-then o a₂ hash 17 p₂ e₃ (sym n₂) in
+      let p₄ = sets-then o a₃ remote (17 + length hash) p₃ e₄ (sym n₃) in
+      let p₅ = sets-then o a₄ local (17 + length hash + length remote) p₄ e₅ (sym n₄) in
+      sets-then o (a₄ ++ local) (leBytes 8 (t .expiry)) (17 + length hash + length remote + length local) p₅ e₆ (sym n₅) ∙ ap (sets o 0) regroup
 
 module _ (u : Unlock) (signature preimage : List ℕ) where
   pub unlockBytes-length : length (unlockBytes u signature preimage) ≡ 2 + (length signature + length preimage)
@@ -145,7 +136,7 @@ module _ (u : Unlock) (signature preimage : List ℕ) where
   unfolding unlockBytes
   unlock-puts o o₁ o₂ f d e₁ e₂ =
       let p : o₁ ≡ sets o 0 (u .byte ∷ (flagByte (u .flag) ∷ signature)) = rw (← d) e₁ in
-      then o (u .byte ∷ (flagByte (u .flag) ∷ signature)) preimage (2 + length signature) p e₂ (omega arith)
+      sets-then o (u .byte ∷ (flagByte (u .flag) ∷ signature)) preimage (2 + length signature) p e₂ (omega arith)
 
 -- ---- what is written, by the tests
 

@@ -1,0 +1,2 @@
+-- What the C interface's operations mean.
+pub mod Answers
