@@ -8,10 +8,10 @@ use native.Mathlib.Omega.{arith}
 use lib.ListN.{length, getD, set, take, drop, length-append, length-take, length-set}
 use lib.Seq.{take-suc, take-suc-set, take-all, take-at, take-nil, take-append-add, sets, sets-eq, length-sets}
 use lib.Bits.{bitXor}
-use Rattle.fiber_types.specs.Bytes.{part, le, leBytes}
+use Rattle.fiber_bytes.specs.Bytes.{part, le, leBytes}
 use Rattle.fiber_types.specs.Words.{rotated}
 use Rattle.fiber_types.specs.Blake2b.{iv, sigma, added, turned, half, mixed, columns, diagonals, picked, round, rounds, start, folded, words, compressed, absorbed, hashed, ones, wordsBytes, params, initial, chain, blake2b, ckbPersonal, ckbHash}
-use Rattle.fiber_types.proofs.BytesLaws.{leBytes-length}
+use Rattle.fiber_bytes.proofs.BytesLaws.{leBytes-length}
 
 -- G
 pub added-by : (v : List ℕ) (a b x p q : ℕ) → p ≡ (getD v a 0 + getD v b 0) % 2 ^ 64 → q ≡ (p + x) % 2 ^ 64 → set v a q ≡ added v a b x

@@ -2,7 +2,7 @@
 use mathlib.Core.Path.{_≡_, refl}
 use mathlib.Core.List.{[], _∷_}
 use lib.ListN.{replicate}
-use Rattle.fiber_types.specs.Bytes.{le, leBytes}
+use Rattle.fiber_bytes.specs.Bytes.{le, leBytes}
 use Rattle.fiber_types.specs.Words.{rotated}
 use Rattle.fiber_types.specs.Blake2b.{words, wordsBytes, params, iv, sigma, added, turned, half, mixed, columns, diagonals, round, rounds, start, folded, compressed, initial, absorbed, hashed, chain, blake2b, ckbPersonal, ckbHash}
 

@@ -10,7 +10,7 @@ use Rattle.fiber_types.specs.declared.key.KeyAnswer.the-variants.{Taken,
 use Rattle.fiber_types.specs.declared.key.KeyHash.{KeyHash}
 use Rattle.fiber_types.specs.Blake2b.{ckbHash}
 use Rattle.fiber_types.specs.Key.{keyHash}
-use Rattle.fiber_types.proofs.BytesLaws.{sets-fill}
+use Rattle.fiber_bytes.proofs.BytesLaws.{sets-fill}
 
 pub key-unfit : (key : List ℕ) → (length key ≡ 33 → ⊥) → record { answer = Refused 14 0; bytes = replicate 20 0 } ≡ keyHash key
 unfolding keyHash

@@ -1,5 +1,4 @@
 -- Laws of the definitions, which proofs cite.
-pub mod BytesLaws
 pub mod WordsLaws
 pub mod Blake2bLaws
 pub mod Sha256Bits

@@ -16,9 +16,9 @@ use Rattle.fiber_types.specs.declared.tlc.Tlc.{Tlc}
 use Rattle.fiber_types.specs.declared.tlc.TlcRead.the-variants as tlc·
 use Rattle.fiber_types.specs.declared.unlock.Unlock.{Unlock}
 use Rattle.fiber_types.specs.declared.unlock.UnlockRead.the-variants as unlock·
-use Rattle.fiber_types.specs.Bytes.{part, le, leBytes}
+use Rattle.fiber_bytes.specs.Bytes.{part, le, leBytes}
 use Rattle.fiber_types.specs.Records.{Outcome, outcome, amountAt, known, isOffered, tlcBytes, readTlc, wroteTlc, witnessLen, flagByte, unlockBytes, readUnlock, wroteUnlock}
-use Rattle.fiber_types.proofs.BytesLaws.{leBytes-length, sets-then, le-none}
+use Rattle.fiber_bytes.proofs.BytesLaws.{leBytes-length, sets-then, le-none}
 
 -- ---- reading
 

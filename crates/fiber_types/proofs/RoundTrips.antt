@@ -16,9 +16,9 @@ use Rattle.fiber_types.specs.declared.tlc.Tlc.{Tlc}
 use Rattle.fiber_types.specs.declared.tlc.TlcRead.the-variants as tlc·
 use Rattle.fiber_types.specs.declared.unlock.Unlock.{Unlock}
 use Rattle.fiber_types.specs.declared.unlock.UnlockRead.the-variants as unlock·
-use Rattle.fiber_types.specs.Bytes.{part, le, leBytes}
+use Rattle.fiber_bytes.specs.Bytes.{part, le, leBytes}
 use Rattle.fiber_types.specs.Records.{amountOf, amountAt, known, tlcBytes, hashPlace, remotePlace, localPlace, expiryPlace, readTlc, witnessLen, flagByte, unlockBytes, readUnlock}
-use Rattle.fiber_types.proofs.BytesLaws.{either, part-add, part-length, part-one, le-add, leBytes-length}
+use Rattle.fiber_bytes.proofs.BytesLaws.{either, part-add, part-length, part-one, le-add, leBytes-length}
 use Rattle.fiber_types.proofs.RecordsLaws.{known-small, tlcBytes-length, unlockBytes-length, tlc-whole, unlock-whole, at-least, fields, amount-both}
 
 -- every element is a byte

@@ -9,7 +9,7 @@ use native.Mathlib.Omega.{arith}
 use lib.ListN.{length, getD, set, take, drop, replicate, length-append, length-drop, length-replicate, replicate-append-replicate}
 use lib.Seq.{sets, length-sets, drop-cons, drop-drop, drop-append-le, take-append-le, take-take, take-suc, take-all, append-snoc, set-at, getD-set-other, getD-drop, length-take-le}
 use lib.Pow.{mod-pow-add}
-use Rattle.fiber_types.specs.Bytes.{part, be, beBytes}
+use Rattle.fiber_bytes.specs.Bytes.{part, be, beBytes}
 use Rattle.fiber_types.specs.Sha256.{constants, ch, maj, sum0, sum1, sig0, sig1, padded, loaded, extended, first, second, turned, turns, folded, compressed, absorbed, wordsBytes, sha256}
 
 pub add4-by : (a b c d p q r : ℕ) → p ≡ (a + b) % 2 ^ 32 → q ≡ (p + c) % 2 ^ 32 → r ≡ (q + d) % 2 ^ 32 → r ≡ (a + b + c + d) % 2 ^ 32

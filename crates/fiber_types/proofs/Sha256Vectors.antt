@@ -2,7 +2,7 @@
 -- Each holds by computing. Assumes nothing.
 use mathlib.Core.Path.{_≡_, refl}
 use mathlib.Core.List.{[], _∷_}
-use Rattle.fiber_types.specs.Bytes.{be, beBytes}
+use Rattle.fiber_bytes.specs.Bytes.{be, beBytes}
 use Rattle.fiber_types.specs.Words.{rotated}
 use Rattle.fiber_types.specs.Sha256.{ch, maj, sum0, sum1, sig0, sig1, constants, padded, initial, loaded, extended, first, second, turned, turns, folded, compressed, absorbed, wordsBytes, sha256}
 

@@ -4,7 +4,7 @@ use Prim.Native.Nat.{ℕ, zero, suc, _+_, _-_, _*_, _/_, _%_, _^_}
 use mathlib.Core.List.{List, [], _∷_, _++_}
 use lib.ListN.{length, getD, set, take, replicate}
 use lib.Bits.{bitXor}
-use Rattle.fiber_types.specs.Bytes.{part, le, leBytes}
+use Rattle.fiber_bytes.specs.Bytes.{part, le, leBytes}
 use Rattle.fiber_types.specs.Words.{rotated}
 
 -- 2.4: words are little-endian: the n words of s from a place on, a byte past the end being padding's 0; the bytes of words

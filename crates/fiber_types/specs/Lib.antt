@@ -1,5 +1,4 @@
 -- What the lower library's operations mean: one file to a module.
-pub mod Bytes
 pub mod Words
 pub mod Blake2b
 pub mod Sha256

@@ -14,7 +14,7 @@ use Rattle.fiber_types.specs.declared.tlc.TlcRead.the-variants as tlc·
 use Rattle.fiber_types.specs.declared.unlock.Unlock.{Unlock}
 use Rattle.fiber_types.specs.declared.unlock.UnlockRead.{UnlockRead}
 use Rattle.fiber_types.specs.declared.unlock.UnlockRead.the-variants as unlock·
-use Rattle.fiber_types.specs.Bytes.{part, le, leBytes}
+use Rattle.fiber_bytes.specs.Bytes.{part, le, leBytes}
 
 -- ---- what writers answer
 

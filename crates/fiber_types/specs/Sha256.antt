@@ -4,7 +4,7 @@ use mathlib.Core.Path.{_≡_}
 use mathlib.Core.List.{List, [], _∷_, _++_}
 use lib.ListN.{length, getD, set, replicate}
 use lib.Bits.{bitAnd, bitXor}
-use Rattle.fiber_types.specs.Bytes.{part, be, beBytes}
+use Rattle.fiber_bytes.specs.Bytes.{part, be, beBytes}
 use Rattle.fiber_types.specs.Words.{rotated}
 
 -- 3.2, 4.1.2: the functions; the complement of a word x is 2^32 - 1 - x

@@ -1,6 +1,6 @@
 // BLAKE2b (RFC 7693) without a key, and CKB's hash.
-use crate::bytes::le64;
-use crate::bytes::put_le64;
+use fiber_bytes::le64;
+use fiber_bytes::put_le64;
 use std::num::wrapping_add_u64;
 ghost use mathlib.Core.Path.{_≡_};
 ghost use mathlib.Core.List.{[]};

@@ -1,6 +1,6 @@
 // Key hashes.
 use crate::blake2b::ckb_hash;
-use crate::bytes::put;
+use fiber_bytes::put;
 ghost use mathlib.Core.Path.{_≡_};
 ghost use Rattle.fiber_types.specs.Key as S;
 

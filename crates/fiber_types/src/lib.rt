@@ -1,7 +1,6 @@
 // The lower library: hashes, since values, epochs and records. Its definitions are in specs/.
 pub mod answer;
 pub mod blake2b;
-pub mod bytes;
 pub mod epoch;
 pub mod key;
 pub mod sha256;

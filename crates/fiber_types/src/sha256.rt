@@ -5,7 +5,7 @@ ghost use Prim.Native.Nat.{ℕ, _+_, _-_, _*_, _/_, _%_, _^_, _≤_, _<_};
 ghost use lib.ListN.{length, getD, drop, replicate};
 ghost use lib.Seq.{sets};
 ghost use Rattle.fiber_types.specs.Words.{rotated};
-ghost use Rattle.fiber_types.specs.Bytes.{part, be, beBytes};
+ghost use Rattle.fiber_bytes.specs.Bytes.{part, be, beBytes};
 ghost use Rattle.fiber_types.specs.Sha256 as S;
 use std::num::wrapping_add_u32;
 

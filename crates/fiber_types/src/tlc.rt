@@ -1,8 +1,8 @@
 // TLC records: type 1, amount 16, hash h, remote key hash 20, local key hash 20, expiry 8.
 use crate::answer::Written;
-use crate::bytes::le64;
-use crate::bytes::put;
-use crate::bytes::put_le64;
+use fiber_bytes::le64;
+use fiber_bytes::put;
+use fiber_bytes::put_le64;
 ghost use mathlib.Core.Path.{_≡_};
 ghost use Prim.Native.Nat.{ℕ, _+_, _≤_};
 ghost use lib.ListN.{length};

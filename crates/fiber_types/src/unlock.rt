@@ -1,6 +1,6 @@
 // Unlocks: byte 1, flag 1, signature 65, and preimage 32 exactly if the flag is 1.
 use crate::answer::Written;
-use crate::bytes::put;
+use fiber_bytes::put;
 ghost use mathlib.Core.Path.{_≡_};
 ghost use Prim.Native.Nat.{ℕ, _+_, _≤_};
 ghost use lib.ListN.{length};

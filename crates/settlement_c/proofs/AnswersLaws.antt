@@ -7,8 +7,8 @@ use mathlib.Core.List.{List, _++_, append-assoc}
 use lib.ListN.{length, length-append}
 use lib.Seq.{sets}
 use borrow.Author.Tests.{lt-ltb, le-ltb}
-use Rattle.fiber_types.specs.Bytes.{leBytes}
-use Rattle.fiber_types.proofs.BytesLaws.{leBytes-length, sets-then}
+use Rattle.fiber_bytes.specs.Bytes.{leBytes}
+use Rattle.fiber_bytes.proofs.BytesLaws.{leBytes-length, sets-then}
 use Rattle.fiber_types.specs.declared.key.KeyAnswer.{KeyAnswer}
 use Rattle.fiber_types.specs.declared.key.KeyHash.{KeyHash}
 use Rattle.fiber_types.specs.Key.{keyHash}

@@ -16,7 +16,7 @@ use Rattle.fiber_types.specs.declared.since.Expiry.the-variants as expiry·
 use Rattle.fiber_types.specs.declared.key.KeyAnswer.{KeyAnswer}
 use Rattle.fiber_types.specs.declared.key.KeyAnswer.the-variants as key·
 use Rattle.fiber_types.specs.declared.key.KeyHash.{KeyHash}
-use Rattle.fiber_types.specs.Bytes.{leBytes}
+use Rattle.fiber_bytes.specs.Bytes.{leBytes}
 
 -- what an operation says: turned down, or its fields
 pub data Said : Type 0 where

@@ -1,7 +1,7 @@
 // The C interface. Until the settlement operations stand here it has exports for tests and benchmarks alone, under names
 // that say so.
-use fiber_types::bytes::put;
-use fiber_types::bytes::put_le64;
+use fiber_bytes::put;
+use fiber_bytes::put_le64;
 use fiber_types::epoch::DueTest;
 use fiber_types::epoch::Epoch;
 use fiber_types::epoch::Scaled;
@@ -16,7 +16,7 @@ ghost use mathlib.Core.List.{_++_};
 ghost use Prim.Native.Nat.{ℕ, _≤_};
 ghost use lib.ListN.{length};
 ghost use lib.Seq.{sets};
-ghost use Rattle.fiber_types.specs.Bytes.{leBytes};
+ghost use Rattle.fiber_bytes.specs.Bytes.{leBytes};
 ghost use Rattle.fiber_types.specs.Blake2b.{ckbHash};
 ghost use Rattle.fiber_types.specs.Sha256 as Sha256;
 ghost use Rattle.fiber_types.specs.Epoch.{scaled, dueTest};

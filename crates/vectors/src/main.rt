@@ -2,9 +2,13 @@
 //
 // A line is: the hash's name, a message in hexadecimal ('-' for no bytes), how often the message is repeated, and the
 // digest in hexadecimal. Empty lines, and lines that start with '#', are passed over.
-use fiber_types::bytes::part_of;
+use fiber_bytes::part_of;
 use libc::STDOUT_FILENO;
 use std::num::wrapping_add_u64;
+use test_lines::agrees;
+use test_lines::find;
+use test_lines::number;
+use test_lines::unhex;
 ghost use mathlib.Core.Path.{_≡_};
 ghost use Prim.Native.Nat.{_<_, _≤_};
 ghost use lib.ListN.{length};
@@ -27,109 +31,28 @@ struct Counts {
     sha256: Count,
 }
 
-fn nibble(b: u8) -> u8
-    ensures { λ r. ⌜ r ≤ 15 ⌝ }
-{
-    if b < b'0' {
-        return 0;
-    }
-    if b <= b'9' {
-        return b - b'0';
-    }
-    if b < b'a' {
-        return 0;
-    }
-    if b <= b'f' {
-        return b - b'a' + 10;
-    }
-    0
-}
-
-// The byte that two hexadecimal digits at a place stand for, or 0 where they are not there.
-fn hex_at(s: &[u8], i: usize) -> u8 {
-    if s.len() <= i {
-        return 0;
-    }
-    if s.len() - i < 2 {
-        return 0;
-    }
-    nibble(s[i]) * 16 + nibble(s[i + 1])
-}
-
-// The first place from at on that holds b or ends the line.
-fn find(s: &[u8], at: usize, b: u8) -> usize
-    requires { ⌜ at ≤ length (now s) ⌝ }
-    ensures { λ r. ⌜ (at ≤ r) × (r ≤ length (now (s .entry))) ⌝ }
-{
-    let mut i = at;
-    while i < s.len() {
-        if s[i] == b {
-            return i;
-        }
-        if s[i] == b'\n' {
-            return i;
-        }
-        i += 1;
-    }
-    i
-}
-
-// A decimal number of at most seven digits.
-fn decimal(s: &[u8]) -> usize
-    ensures { λ r. ⌜ r ≤ 9999999 ⌝ }
-{
-    let mut x: usize = 0;
-    for i in 0..s.len() {
-        if 999_998 < x {
-            return 0;
-        }
-        x = x * 10 + nibble(s[i]) as usize;
-    }
-    x
-}
-
-// The byte at i: of the n that hex stands for, or the one n before it.
-fn repeated(hex: &[u8], out: &[u8], n: usize, i: usize) -> u8
-    requires { ⌜ (n ≤ 1000000) × (i < length (now out)) ⌝ }
-{
-    if i < n {
-        hex_at(hex, 2 * i)
-    } else {
-        out[i - n]
-    }
-}
-
 // Writes the bytes that hex stands for count times to the front of out, and answers how many bytes there are.
-fn message(hex: &[u8], count: usize, out: &mut [u8]) -> usize
-    requires { ⌜ count ≤ 9999999 ⌝ }
+fn message(hex: &[u8], count: u64, out: &mut [u8]) -> usize
     ensures { λ r. ⌜ r ≤ length (now (out .exit)) ⌝ }
 {
-    let n = hex.len() / 2;
+    let n = unhex(hex, out);
     if 1_000_000 < n {
         return 0;
     }
-    let all = n * count;
+    if 1_000_000 < count {
+        return 0;
+    }
+    let all = n * count as usize;
     if out.len() < all {
         return 0;
     }
-    for i in 0..all {
-        let b = repeated(hex, out, n, i);
-        out[i] = b;
+    if all < n {
+        return 0;
+    }
+    for i in n..all {
+        out[i] = out[i - n];
     }
     all
-}
-
-// Whether the digest is what hex stands for.
-fn agrees(digest: &[u8], hex: &[u8]) -> bool {
-    if hex.len() / 2 != digest.len() {
-        return false;
-    }
-    for i in 0..digest.len() {
-        if digest[i] != hex_at(hex, 2 * i) {
-            return false;
-        }
-    }
-    true
 }
 
 fn named(b: u8) -> Hash {
@@ -207,7 +130,7 @@ fn line(c: Counts, s: &[u8], at: usize, out: &mut [u8]) -> Counts
         return c;
     }
     let fourth = find(s, third + 1, b' ');
-    let count = decimal(part_of(s, second + 1, third - second - 1));
+    let count = number(part_of(s, second + 1, third - second - 1));
     let n = message(part_of(s, first + 1, second - first - 1), count, out);
     run(
         c,

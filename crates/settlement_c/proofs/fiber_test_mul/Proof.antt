@@ -1,7 +1,7 @@
 -- The buffer's length, then what the scaling says.
 use mathlib.Core.Path.{sym, ap, _∙_}
 use mathlib.Core.List.{_++_}
-use Rattle.fiber_types.specs.Bytes.{leBytes}
+use Rattle.fiber_bytes.specs.Bytes.{leBytes}
 use Rattle.settlement_c.specs.Answers.{saidScaled}
 use Rattle.settlement_c.proofs.AnswersLaws.{pair-length, more, call-short, call-refused, call-fields}
 use borrow.Author.Needs.{needs}

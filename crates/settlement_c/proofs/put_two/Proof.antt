@@ -1,7 +1,7 @@
 -- The front, and two numbers behind it.
 use mathlib.Core.Path.{_∙_}
-use Rattle.fiber_types.specs.Bytes.{leBytes}
-use Rattle.fiber_types.proofs.BytesLaws.{leBytes-length}
+use Rattle.fiber_bytes.specs.Bytes.{leBytes}
+use Rattle.fiber_bytes.proofs.BytesLaws.{leBytes-length}
 use Rattle.settlement_c.proofs.AnswersLaws.{behind, more}
 use borrow.Author.Needs.{needs}
 use Rattle.settlement_c.proofs.put_two.Statement.{statement}

@@ -1,0 +1,160 @@
+-- Laws of `specs/Bytes.antt`: numbers in bytes by halves, and runs of stores.
+-- Assumes nothing.
+use mathlib.Core.Path.{_≡_, refl, sym, ap, ap₂, _∙_}
+use mathlib.Core.List.{List, [], _∷_, _++_, append-nil}
+use mathlib.Core.Bool.{Bool, true, false}
+use mathlib.Core.Logic.{_⊎_, inl, inr, ⊎-elim}
+use Prim.Native.Nat.{ℕ, zero, suc, min, _+_, _-_, _*_, _/_, _%_, _^_, _≤_, _<_}
+use native.Mathlib.Nat.{add-zero, add-suc, suc-add, zero-add, mul-assoc, mul-comm, pow-zero, pow-suc, div-one, div-div-eq-div-mul, pow-le-pow-right}
+use native.Mathlib.Numerals.{add-one}
+use native.Mathlib.Omega.{arith}
+use lib.Dec.{leb}
+use borrow.Author.Tests.{leb-true, leb-false}
+use lib.ListN.{length, getD, set, take, drop, drop-of-length-le, length-take, length-drop, length-set, take-append-drop}
+use lib.Seq.{sets, length-sets, sets-eq, length-take-le, drop-cons, drop-drop, take-add, take-all, set-out}
+use Rattle.fiber_bytes.specs.Bytes.{part, le, leBytes}
+
+pub either : (a b : ℕ) → (a ≤ b) ⊎ (b < a)
+either a b = go (leb a b) refl
+  where
+    go : (t : Bool) → leb a b ≡ t → (a ≤ b) ⊎ (b < a)
+    go true e = inl (leb-true a b e)
+    go false e = inr (leb-false a b e)
+
+-- ---- parts
+
+pub part-add : (s : List ℕ) (at m n : ℕ) → part s at (m + n) ≡ part s at m ++ part s (at + m) n
+part-add s at m n = take-add m n (drop at s) ∙ ap (λ (l : List ℕ). take m (drop at s) ++ take n l) (drop-drop m at s)
+
+pub part-length : (s : List ℕ) (at n : ℕ) → at + n ≤ length s → length (part s at n) ≡ n
+part-length s at n h = simp (length-take, length-drop) (omega arith)
+
+pub part-one : (s : List ℕ) (at : ℕ) → at < length s → part s at 1 ≡ getD s at 0 ∷ []
+part-one s at h = rw (drop-cons s at 0)
+
+pub part-none : (s : List ℕ) (at n : ℕ) → length s ≤ at → part s at n ≡ []
+part-none s at zero h = refl
+part-none s at (suc n) h = rw (drop-of-length-le s h)
+
+pub part-rest : (s : List ℕ) (at n : ℕ) → length s - at ≤ n → take (length s - at) (drop at s) ≡ part s at n
+part-rest s at n h =
+    let e = length-drop at s in
+    take-all (length s - at) (drop at s) (omega (arith, e)) ∙ sym (take-all n (drop at s) (omega (arith, e)))
+
+-- ---- little-endian numbers
+
+pub le-append : (xs ys : List ℕ) → le (xs ++ ys) ≡ le xs + 256 ^ length xs * le ys
+unfolding le
+le-append [] ys = omega (arith, pow-zero 256)
+le-append (x ∷ xs) ys =
+    let e : 256 ^ suc (length xs) * le ys ≡ 256 * (256 ^ length xs * le ys) =
+    ap (λ (n : ℕ). n * le ys) (pow-suc 256 (length xs) ∙ mul-comm (256 ^ length xs) 256) ∙ mul-assoc 256 (256 ^ length xs) (le ys) in
+    omega (arith, e, le-append xs ys)
+
+-- a number in m + n bytes, by its first m and the others
+pub le-add : (s : List ℕ) (at m n : ℕ) → at + m ≤ length s → le (part s at (m + n)) ≡ le (part s at m) + 256 ^ m * le (part s (at + m) n)
+le-add s at m n h =
+    ap le (part-add s at m n)
+    ∙ le-append (part s at m) (part s (at + m) n)
+    ∙ ap (λ (k : ℕ). le (part s at m) + 256 ^ k * le (part s (at + m) n)) (part-length s at m h)
+
+pub le-one : (s : List ℕ) (at : ℕ) → at < length s → le (part s at 1) ≡ getD s at 0
+unfolding le
+le-one s at h = ap le (part-one s at h) ∙ omega arith
+
+pub le-none : (s : List ℕ) (at n : ℕ) → length s ≤ at → 0 ≡ le (part s at n)
+unfolding le
+le-none s at n h = rw (part-none s at n h)
+
+-- a byte put below a number
+pub grow : (x b n : ℕ) → x < 256 ^ n → b < 256 → 256 * x + b < 256 ^ (n + 1)
+grow x b n h g = rw add-one (omega (arith, pow-suc 256 n))
+
+pub byte-more : (s : List ℕ) (i x b : ℕ) → i < length s → x ≡ le (drop (i + 1) s) → b ≡ getD s i 0 → 256 * x + b ≡ le (drop i s)
+unfolding le
+byte-more s i x b h e f = rw (drop-cons s i 0 h) (omega (arith, e, f, ap (λ (k : ℕ). le (drop k s)) (add-one i)))
+
+pub fits : (x n : ℕ) → x < 256 ^ n → n ≤ 7 → x < 2 ^ 56
+fits x n h l = omega (arith, pow-le-pow-right {n = 256} (omega arith) l)
+
+-- ---- runs of stores
+
+pub sets-append : (a b l : List ℕ) (i : ℕ) → sets l i (a ++ b) ≡ sets (sets l i a) (i + length a) b
+sets-append [] b l i = rw add-zero
+sets-append (x ∷ a) b l i = sets-append a b (set l i x) (suc i) ∙ ap (λ (k : ℕ). sets (sets (set l i x) (suc i) a) k b) (simp (suc-add, add-suc))
+
+-- a run of stores from the front, and another right behind it
+pub sets-then : (o a b : List ℕ) (j : ℕ) {l₁ l₂ : List ℕ} → l₁ ≡ sets o 0 a → l₂ ≡ sets l₁ j b → j ≡ length a → l₂ ≡ sets o 0 (a ++ b)
+sets-then o a b j e f g =
+    f
+    ∙ ap (λ (k : List ℕ). sets k j b) e
+    ∙ ap (λ (n : ℕ). sets (sets o 0 a) n b) (g ∙ sym (zero-add (length a)))
+    ∙ sym (sets-append a b o 0)
+
+pub sets-out : (vs l : List ℕ) (i : ℕ) → length l ≤ i → sets l i vs ≡ l
+sets-out [] l i h = refl
+sets-out (v ∷ vs) l i h = rw (set-out l i v h) (sets-out vs l (suc i) (omega arith))
+
+-- a list that is filled from the front with as many as it has, or more
+pub sets-fill : (l vs : List ℕ) → length l ≤ length vs → sets l 0 vs ≡ take (length l) vs
+sets-fill l vs h =
+    let n : length (take (length l) vs) ≡ length l = length-take-le (length l) vs h in
+    ap (sets l 0) (sym (take-append-drop (length l) vs))
+    ∙ sets-append (take (length l) vs) (drop (length l) vs) l 0
+    ∙ sets-out (drop (length l) vs) (sets l 0 (take (length l) vs)) (0 + length (take (length l) vs)) (omega (arith, length-sets l 0 (take (length l) vs)))
+    ∙ sets-eq (take (length l) vs) l 0 (omega arith)
+    ∙ ap (λ (r : List ℕ). take (length l) vs ++ r) (drop-of-length-le l {i = 0 + length (take (length l) vs)} (omega arith))
+    ∙ append-nil (take (length l) vs)
+
+pub leBytes-length : (n x : ℕ) → length (leBytes n x) ≡ n
+unfolding leBytes
+leBytes-length zero x = refl
+leBytes-length (suc n) x = ap suc (leBytes-length n (x / 256))
+
+-- the lowest m + n bytes, by the first m and the others
+pub leBytes-add : (m n x : ℕ) → leBytes (m + n) x ≡ leBytes m x ++ leBytes n (x / 256 ^ m)
+unfolding leBytes
+leBytes-add zero n x = ap₂ (λ (k y : ℕ). leBytes k y) (zero-add n) (sym (ap (λ (d : ℕ). x / d) (pow-zero 256) ∙ div-one x))
+leBytes-add (suc m) n x =
+    let e : x / 256 / 256 ^ m ≡ x / 256 ^ suc m = div-div-eq-div-mul x 256 (256 ^ m) ∙ ap (λ (d : ℕ). x / d) (mul-comm 256 (256 ^ m) ∙ sym (pow-suc 256 m)) in
+    ap (λ (k : ℕ). leBytes k x) (suc-add m n)
+    ∙ ap (λ (l : List ℕ). x % 256 ∷ l) (leBytes-add m n (x / 256) ∙ ap (λ (y : ℕ). leBytes m (x / 256) ++ leBytes n y) e)
+
+-- the stores of two halves of m bytes, one behind the other, are the stores of the whole
+pub halves : (l l₁ l₂ : List ℕ) (at m x : ℕ) → l₁ ≡ sets l at (leBytes m x) → l₂ ≡ sets l₁ (at + m) (leBytes m (x / 256 ^ m))
+    → l₂ ≡ sets l at (leBytes (m + m) x)
+halves l l₁ l₂ at m x e f =
+    f
+    ∙ ap (λ (k : List ℕ). sets k (at + m) (leBytes m (x / 256 ^ m))) e
+    ∙ sym
+    (ap (sets l at) (leBytes-add m m x)
+    ∙ sets-append (leBytes m x) (leBytes m (x / 256 ^ m)) l at
+    ∙ ap (λ (k : ℕ). sets (sets l at (leBytes m x)) (at + k) (leBytes m (x / 256 ^ m))) (leBytes-length m x))
+
+-- A loop that stores one after the other: what is left to store, from here, gives what the whole gives.
+pub put-more : (l src : List ℕ) (at i : ℕ) → i < length src → sets (set l (at + i) (getD src i 0)) (at + (i + 1)) (drop (i + 1) src) ≡ sets l (at + i) (drop i src)
+put-more l src at i h = rw (add-one, add-suc, drop-cons src i 0 h)
+
+pub put-end : (l src : List ℕ) (at i : ℕ) → i ≡ min (length src) (length l - at) → l ≡ sets l (at + i) (drop i src)
+put-end l src at i e = ⊎-elim whole (λ h. sym (sets-out (drop i src) l (at + i) (omega arith))) (either (length src) (length l - at))
+  where
+    whole : length src ≤ length l - at → l ≡ sets l (at + i) (drop i src)
+    whole h =
+        let g : length src ≤ i = omega arith in
+        rw (drop-of-length-le src g)
+
+left : (m i : ℕ) → i < m → m - i ≡ suc (m - (i + 1))
+left m i h = omega arith
+
+pub put-byte : (l : List ℕ) (at i m x : ℕ) → i < m → sets (set l (at + i) (x % 256)) (at + (i + 1)) (leBytes (m - (i + 1)) (x / 256)) ≡ sets l (at + i) (leBytes (m - i) x)
+unfolding leBytes
+put-byte l at i m x h = rw (left m i h, add-one, add-suc)
+
+pub put-byte-end : (l : List ℕ) (at i m x : ℕ) → i ≡ min m (length l - at) → l ≡ sets l (at + i) (leBytes (m - i) x)
+unfolding leBytes
+put-byte-end l at i m x e = ⊎-elim whole (λ h. sym (sets-out (leBytes (m - i) x) l (at + i) (omega arith))) (either m (length l - at))
+  where
+    whole : m ≤ length l - at → l ≡ sets l (at + i) (leBytes (m - i) x)
+    whole h =
+        let g : m - i ≡ 0 = omega arith in
+        rw g

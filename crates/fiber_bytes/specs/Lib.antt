@@ -1,0 +1,2 @@
+-- What the byte library's operations mean.
+pub mod Bytes

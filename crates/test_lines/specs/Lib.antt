@@ -1,0 +1,2 @@
+-- What the reading of test lists means.
+pub mod Lines

@@ -1,0 +1,161 @@
+//! The kinds of cases that can be compared. A new kind implements `Kind` in a file of its own and gets a line in
+//! `TABLE`; its exports are named in port.rs and build.rs.
+
+use crate::document::{Document, Epoch};
+use crate::port::Called;
+use crate::random::Random;
+use crate::reference::calls::Rust;
+use crate::run::{self, Options, Tally};
+
+mod due;
+mod expiry;
+mod hash;
+mod key;
+mod mul;
+
+/// One operation, on three sides: document 01, the Rust, the port.
+///
+/// Its cases are numbered: first `edges`, then `grid`, then random ones without end. Case and seed determine the
+/// input.
+pub trait Kind {
+    type Input: Clone;
+    type Value: PartialEq;
+
+    const NAME: &'static str;
+    const ABOUT: &'static str;
+    /// The export it calls, and whether the library has it.
+    const EXPORT: (&'static str, bool);
+    /// How many lines of the dump are its own.
+    const DUMP_LINES: usize;
+
+    /// Inputs picked by hand, the most telling first.
+    fn edges() -> Vec<Self::Input>;
+    /// A short range taken whole: how many inputs, and which.
+    fn grid_size() -> u64;
+    fn grid(place: u64) -> Self::Input;
+    fn random(random: &mut Random) -> Self::Input;
+    /// For the dump, where short inputs are wanted.
+    fn random_for_dump(random: &mut Random) -> Self::Input {
+        Self::random(random)
+    }
+
+    fn document(input: &Self::Input) -> Document<Self::Value>;
+    /// Asked only where document 01 says that the two are equal.
+    fn rust(input: &Self::Input) -> Rust<Self::Value>;
+    fn port(input: &Self::Input, random: &mut Random) -> Called<Self::Value>;
+
+    /// What kind of value it is, counted by the comparison.
+    fn class(_input: &Self::Input, _value: &Self::Value) -> &'static str {
+        "values"
+    }
+
+    /// As in the dump.
+    fn show_input(input: &Self::Input) -> String;
+    fn show_value(value: &Self::Value) -> String;
+}
+
+/// A kind as the command line sees it.
+pub struct Entry {
+    pub name: &'static str,
+    pub about: &'static str,
+    pub export: (&'static str, bool),
+    pub compare: fn(&Options) -> Tally,
+    pub one: fn(u64, u64, bool) -> bool,
+    pub dump: fn(u64) -> Vec<String>,
+}
+
+const fn entry<K: Kind>() -> Entry {
+    Entry {
+        name: K::NAME,
+        about: K::ABOUT,
+        export: K::EXPORT,
+        compare: run::compare::<K>,
+        one: run::one::<K>,
+        dump: run::dump::<K>,
+    }
+}
+
+pub const TABLE: &[Entry] = &[
+    entry::<mul::Mul>(),
+    entry::<due::Due>(),
+    entry::<expiry::Expiry>(),
+    entry::<key::Key>(),
+    entry::<hash::Ckb>(),
+    entry::<hash::Sha256>(),
+];
+
+// ---- Inputs that several kinds draw ----
+
+/// Numbers at and beyond the limits of 24, 16, 32 and 64 bits, and small ones.
+const LIMITS: &[u64] = &[
+    0,
+    1,
+    2,
+    3,
+    0xfffe,
+    0xffff,
+    0x1_0000,
+    0x1_0001,
+    0xff_fffe,
+    0xff_ffff,
+    0x100_0000,
+    0x100_0001,
+    0xffff_ffff,
+    0x1_0000_0000,
+    u64::MAX - 1,
+    u64::MAX,
+];
+
+/// Cuts a number into digits, the bound of each given when it is asked for.
+fn digits(mut number: u64) -> impl FnMut(u64) -> u64 {
+    move |bound| {
+        let digit = number % bound;
+        number /= bound;
+        digit
+    }
+}
+
+fn epoch(number: u64, index: u64, length: u64) -> Epoch {
+    Epoch { number, index, length }
+}
+
+/// An epoch whose fields mostly fit. Its length is 0 at times, its index often above it.
+fn any_epoch(random: &mut Random) -> Epoch {
+    let number = match random.below(8) {
+        0 => random.pick(&[0, 1, 0xff_fffe, 0xff_ffff]),
+        1..=3 => random.of_width(12),
+        _ => random.of_width(24),
+    };
+    let length = match random.below(10) {
+        0 => random.pick(&[0, 1, 2, 3, 0xfffe, 0xffff]),
+        1 => random.near(600),
+        2 => random.near(900),
+        3 => random.near(1800),
+        4..=6 => 1 + random.below(1800),
+        _ => random.of_width(16),
+    };
+    let index = match random.below(6) {
+        0 => random.pick(&[0, 1, 0xfffe, 0xffff]),
+        1 => random.near(length).min(0xffff),
+        2..=4 => random.below(length),
+        _ => random.of_width(16),
+    };
+    let mut e = epoch(number, index, length);
+    if random.one_in(12) {
+        let beyond = if random.one_in(2) { random.pick(LIMITS) } else { random.of_width(64) };
+        match random.below(3) {
+            0 => e.number = beyond,
+            1 => e.index = beyond,
+            _ => e.length = beyond,
+        }
+    }
+    e
+}
+
+fn hex(bytes: &[u8]) -> String {
+    if bytes.is_empty() {
+        "-".to_string()
+    } else {
+        crate::shim::hex::encode(bytes)
+    }
+}

@@ -1,0 +1,184 @@
+//! The reference's own text compared with the port. `oracle --help` says how; README.md says what it rests on.
+
+mod document;
+mod kinds;
+mod partings;
+mod port;
+mod random;
+mod reference;
+mod run;
+mod selftest;
+mod shim;
+
+use kinds::{Entry, TABLE};
+use run::Options;
+use std::process::exit;
+
+const HELP: &str = "\
+oracle: the text of nervosnetwork/fiber at 21c4dfbdbd, compared with the port over C
+
+  oracle selftest                      checks the oracle itself
+  oracle slices                        lists which lines of which file of the reference it holds
+  oracle compare [KIND..] [options]    compares; without KIND every kind
+      --rounds N      how many cases of each kind (1000000)
+      --seconds S     ends each kind after S seconds
+      --seed X        seed of the random cases (1)
+      --from CASE     first case (0); cases are numbered, edges first
+      --no-port       compares document 01 and the Rust alone
+  oracle one KIND SEED CASE [--no-port]   runs one case alone and prints all answers
+  oracle dump [--seed X]               prints a sample of the Rust's answers, in the format told at its top
+  oracle partings                      prints where document 01 and the Rust part, by running the Rust
+
+Exit status: 0 agreed, 1 a case failed, 2 not run (wrong use, or the library lacks an export).
+";
+
+/// Which of the two builds this is.
+pub fn build() -> &'static str {
+    if cfg!(debug_assertions) {
+        "checked"
+    } else {
+        "plain"
+    }
+}
+
+fn main() {
+    // The reference's panics are answers, caught in reference/calls.rs. Others end the program by an exit status.
+    std::panic::set_hook(Box::new(|_| {}));
+    let arguments: Vec<String> = std::env::args().skip(1).collect();
+    let words: Vec<&str> = arguments.iter().map(String::as_str).collect();
+    let status = match words[..] {
+        ["selftest"] => selftest(),
+        ["slices"] => slices(),
+        ["compare", ref rest @ ..] => compare(rest),
+        ["one", kind, seed, case] => one(kind, seed, case, true),
+        ["one", kind, seed, case, "--no-port"] => one(kind, seed, case, false),
+        ["dump"] => dump(1),
+        ["dump", "--seed", seed] => dump(number("--seed", seed)),
+        ["partings"] => {
+            partings::print();
+            0
+        }
+        ["--help" | "-h" | "help"] => {
+            print!("{}", help());
+            0
+        }
+        [] => wrong("say what to do"),
+        _ => wrong(&format!("`{}` is not understood", words.join(" "))),
+    };
+    exit(status)
+}
+
+fn help() -> String {
+    let kind = |k: &Entry| {
+        let there = if k.export.1 { "" } else { " (not in this library)" };
+        format!("  {:8} {}, {}{there}\n", k.name, k.about, k.export.0)
+    };
+    format!("{HELP}\nKinds:\n{}", TABLE.iter().map(kind).collect::<String>())
+}
+
+fn wrong(what: &str) -> ! {
+    eprintln!("oracle: {what}; `oracle --help` lists the commands");
+    exit(2)
+}
+
+fn number<T: std::str::FromStr>(name: &str, text: &str) -> T {
+    text.parse().unwrap_or_else(|_| wrong(&format!("{name} has to be a number and is `{text}`")))
+}
+
+fn kind(name: &str) -> &'static Entry {
+    TABLE.iter().find(|k| k.name == name).unwrap_or_else(|| wrong(&format!("there is no kind `{name}`")))
+}
+
+fn selftest() -> i32 {
+    let _ = std::panic::take_hook(); // a failed check says which
+    std::panic::catch_unwind(selftest::run).map_or(1, |()| 0)
+}
+
+fn slices() -> i32 {
+    print!("{}", reference::SLICES);
+    println!("SHA-256 of the sliced text: {}", selftest::sliced_digest());
+    0
+}
+
+fn compare(words: &[&str]) -> i32 {
+    let mut options = Options { seed: 1, from: 0, rounds: 1_000_000, seconds: None, port: true };
+    let mut chosen: Vec<&Entry> = vec![];
+    let mut rest = words.iter();
+    while let Some(word) = rest.next() {
+        let mut value = || rest.next().copied().unwrap_or_else(|| wrong(&format!("{word} wants a number")));
+        match *word {
+            "--rounds" => options.rounds = number(word, value()),
+            "--seconds" => options.seconds = Some(number(word, value())),
+            "--seed" => options.seed = number(word, value()),
+            "--from" => options.from = number(word, value()),
+            "--no-port" => options.port = false,
+            flag if flag.starts_with('-') => wrong(&format!("there is no option {flag}")),
+            name => chosen.push(kind(name)),
+        }
+    }
+    let named = !chosen.is_empty();
+    if !named {
+        chosen = TABLE.iter().collect();
+    }
+    println!("oracle: {} build, seed {}, cases from {}", build(), options.seed, options.from);
+    let (mut failures, mut missing) = (0, 0);
+    for kind in chosen {
+        if options.port && !kind.export.1 {
+            println!("{}: NOT RUN, the library has no {}", kind.name, kind.export.0);
+            missing += 1;
+            continue;
+        }
+        let tally = (kind.compare)(&options);
+        print!("{tally}");
+        failures += tally.failures;
+    }
+    match (failures, missing) {
+        (0, 0) => 0,
+        (0, _) => 2,
+        _ => 1,
+    }
+}
+
+fn one(name: &str, seed: &str, case: &str, port: bool) -> i32 {
+    let kind = kind(name);
+    if port && !kind.export.1 {
+        wrong(&format!("the library has no {}, add --no-port to see the other answers", kind.export.0));
+    }
+    match (kind.one)(number("SEED", seed), number("CASE", case), port) {
+        true => 0,
+        false => 1,
+    }
+}
+
+fn dump(seed: u64) -> i32 {
+    print!(
+        "{}",
+        DUMP_HEADER.replace("SEED", &seed.to_string()).replace("DIGEST", &selftest::sliced_digest())
+    );
+    for kind in TABLE {
+        for line in (kind.dump)(seed) {
+            println!("{line}");
+        }
+    }
+    0
+}
+
+const DUMP_HEADER: &str = "\
+# Answers of the Rust, nervosnetwork/fiber at commit 21c4dfbdbd, to a fixed list of inputs.
+# Made by `oracle dump --seed SEED` (oracle/README.md). SHA-256 of the reference's text that answered:
+# DIGEST
+#
+# One case per line: kind, inputs, `=`, answers, parted by single blanks. Lines that begin with # are comments.
+# Numbers are decimal, byte strings lower-case hex, `-` is the empty byte string. The answer `none` is the Rust's
+# None: for `mul` a refusal, whose number the Rust does not tell (7 or 8 in document 01), for `expiry` no expiry.
+#
+#   mul     number index length numerator denominator = number index length, or none
+#   due     header, delay and current, each as number index length = 1 if due, else 0
+#   expiry  since = milliseconds, or none
+#   key     public key, 33 bytes = key hash, 20 bytes
+#   ckb     message = CKB hash, 32 bytes
+#   sha256  message = SHA-256, 32 bytes
+#
+# Left out are inputs outside the equality of document 01: what cannot be handed to the Rust (fields beyond their
+# bits, keys of other lengths), whole parts above 16777215, a length of 0 in the due test.
+";

@@ -1,0 +1,217 @@
+//! Where document 01 and the Rust part, shown by running the Rust on the smallest input.
+
+use crate::document::{self, Document, Epoch};
+use crate::reference::calls::{self, Case, Choice, Rust, Tlc, Update};
+use std::fmt::Display;
+
+fn epoch(number: u64, index: u64, length: u64) -> Epoch {
+    Epoch { number, index, length }
+}
+
+fn fraction(e: Epoch) -> String {
+    format!("({}, {}/{})", e.number, e.index, e.length)
+}
+
+fn said<V: Display>(answer: Document<V>) -> String {
+    match answer {
+        Document::Value(value) => value.to_string(),
+        Document::Row(row, place) => format!("{} at {place}: {}", row.number, row.cause),
+    }
+}
+
+fn done<V: Display>(answer: Rust<V>) -> String {
+    match answer {
+        Rust::Value(value) => value.to_string(),
+        Rust::TurnedDown => "turned down, without a number".to_string(),
+        Rust::Panicked(text) => format!("panics: {text}"),
+    }
+}
+
+struct Parting {
+    place: &'static str,
+    input: String,
+    document: String,
+    rust: String,
+    note: &'static str,
+}
+
+fn scaled(place: &'static str, e: Epoch, numerator: u64, denominator: u64, note: &'static str) -> Parting {
+    Parting {
+        place,
+        input: format!("{} by {numerator}/{denominator}", fraction(e)),
+        document: said(document::mul(e, numerator, denominator)),
+        rust: done(calls::scale(e, numerator, denominator)),
+        note,
+    }
+}
+
+fn due(place: &'static str, h: Epoch, d: Epoch, c: Epoch, note: &'static str) -> Parting {
+    Parting {
+        place,
+        input: format!("header {}, delay {}, current {}", fraction(h), fraction(d), fraction(c)),
+        document: said(document::is_due(h, d, c)),
+        rust: done(calls::due(h, d, c)),
+        note,
+    }
+}
+
+fn all() -> Vec<Parting> {
+    let (zero, one) = (epoch(0, 0, 1), epoch(1, 0, 1));
+    let packed = "the answer's fields are packed into one number, where the whole part runs into the index; \
+                  with debug assertions the constructor refuses it (shim, from memory of ckb-types)";
+    let only_number = "no parting in what is turned down: the Rust only gives no number";
+    let shim = "rests on the shim of ckb-types' epoch, from memory";
+    let mut partings = vec![
+        scaled("mul, whole part above 24 bits", one, 16_777_216, 1, packed),
+        scaled("mul, whole part above 24 bits, by 2", epoch(8_388_608, 0, 1), 2, 1, packed),
+        scaled("mul, whole part above 24 bits, by 2", epoch(16_777_215, 0, 1), 2, 1, packed),
+        scaled("mul, D = 0 by the length", epoch(0, 0, 0), 0, 1, only_number),
+        scaled("mul, D = 0 by the denominator", epoch(0, 0, 1), 0, 0, only_number),
+        scaled("mul, N above 64 bits", epoch(2, 0, 1), 1 << 63, 1, only_number),
+        scaled("mul, D above 64 bits", epoch(0, 0, 2), 0, 1 << 63, only_number),
+        due("due test, header 0/0/0", epoch(0, 0, 0), zero, zero, shim),
+        due("due test, header length 0", epoch(1, 0, 0), zero, one, shim),
+        due("due test, delay length 0", zero, epoch(0, 1, 0), zero, shim),
+        due("due test, current length 0", zero, zero, epoch(1, 0, 0), shim),
+    ];
+    partings.push(Parting {
+        place: "delay in the args with length 0",
+        input: "epoch value 1: number 1, index 0, length 0".to_string(),
+        document: "7 at 0 in a first settlement: epoch length 0".to_string(),
+        rust: format!("read as {}", done(calls::epoch_of_value(1))),
+        note: shim,
+    });
+    let since = 0x5f00_0000_0000_0005;
+    partings.push(Parting {
+        place: "since value, bits 60-56",
+        input: format!("{since:#x}"),
+        document: match document::absolute_expiry(since) {
+            Document::Value(expiry) => format!("not looked at: {}", milliseconds(expiry)),
+            row => format!("{row:?}"),
+        },
+        rust: match calls::expiry(since) {
+            Rust::Value(expiry) => milliseconds(expiry),
+            other => format!("{other:?}"),
+        },
+        note: "no parting here: ckb-sdk's `Since` is a shim that follows document 01, so what the daemon does with \
+               these bits is not shown",
+    });
+    partings.extend(updates());
+    partings.extend(choices());
+    partings
+}
+
+/// A witness with h = 20 and `n` TLCs of zeros, each with its place as its amount, and these unlocks.
+fn witness(n: u8, unlocks: &[u8]) -> Vec<u8> {
+    let mut witness = vec![0, n];
+    for place in 0..n {
+        let mut record = [0; 85];
+        record[1] = place;
+        witness.extend(record);
+    }
+    witness.extend([0; 72]);
+    for unlock in unlocks {
+        witness.push(*unlock);
+        witness.extend([0; 66]);
+    }
+    witness
+}
+
+/// Places settled twice. Document 01, "Update".
+fn updates() -> Vec<Parting> {
+    let twice = |n: u8, unlocks: &[u8]| Parting {
+        place: "update, a place settled twice",
+        input: format!("h = 20, n = {n}, unlocks {unlocks:?}"),
+        document: format!("6 at {}: place settled twice", 2 + 85 * usize::from(n) + 72 + 67),
+        rust: match calls::update(20, &witness(n, unlocks)) {
+            Update::State(state) => {
+                format!("says {} TLCs and writes {} records", state[0], (state.len() - 73) / 85)
+            }
+            Update::Refused => "turned down, without a number".to_string(),
+            other => format!("{other:?}"),
+        },
+        note: "each repeat is subtracted from the count, one record is removed",
+    };
+    vec![twice(1, &[0, 0]), twice(2, &[0, 0]), twice(2, &[0, 0, 7])]
+}
+
+/// A first settlement for the remote commitment with relative delay (0, 0/1), due at once.
+fn first_settlement(args: usize, tlcs: usize) -> Case {
+    let since: u64 = 0xa000_0000_0000_0000 | 1 << 40;
+    let mut all_args = [0; 57];
+    all_args[20..28].copy_from_slice(&since.to_le_bytes());
+    let tlc = Tlc {
+        received: 0,
+        alg: 0,
+        amount: 1,
+        hash: [0; 32],
+        expiry: u64::MAX,
+        local: [2; 33],
+        remote: [3; 33],
+    };
+    let mut case = Case {
+        h: 20,
+        for_remote: true,
+        args: all_args[..args].to_vec(),
+        time: 1,
+        header: (0, 0, 1),
+        current: (0, 0, 1),
+        tlcs: vec![tlc; tlcs],
+        local_amount: 0,
+        remote_amount: 0,
+        local_key: [2; 33],
+        remote_key: [3; 33],
+        tracked: vec![],
+        preimages: vec![],
+        witness: None,
+    };
+    case.tracked = calls::tracked(&case);
+    case
+}
+
+fn choices() -> Vec<Parting> {
+    let chosen = |case: &Case| match calls::choice(case) {
+        Choice::Chosen(c) => format!("chosen, unlock byte {:#04x}", c.unlock[0]),
+        Choice::Wait(number) => format!("waits ({number})"),
+        other => format!("{other:?}"),
+    };
+    let short_args = |args: usize, tlcs: usize, what: &str| Parting {
+        place: "choice, lock args below 36 bytes",
+        input: format!("first settlement, args of {args} bytes, {what}"),
+        document: "10 at 0: lock args below 36 bytes".to_string(),
+        rust: chosen(&first_settlement(args, tlcs)),
+        note: "the args are cut at 28 at once, but at 36 only once something is chosen",
+    };
+    let mut expired = first_settlement(57, 255);
+    expired.tlcs[254].expiry = 0;
+    expired.tracked = calls::tracked(&expired);
+    vec![
+        short_args(27, 0, "no TLCs"),
+        short_args(28, 0, "no TLCs, our share due"),
+        short_args(28, 1, "one TLC that is not expired"),
+        Parting {
+            place: "choice, 255 TLCs",
+            input: "first settlement, 255 offered TLCs, of which place 254 alone is expired".to_string(),
+            document: "12 at 0: above 254 settlement TLCs".to_string(),
+            rust: chosen(&expired),
+            note: "0xfe is the unlock of the remote share",
+        },
+    ]
+}
+
+fn milliseconds(expiry: Option<u64>) -> String {
+    expiry.map_or("no expiry".to_string(), |ms| format!("{ms} ms"))
+}
+
+pub fn print() {
+    println!(
+        "Partings between document 01 and the Rust, {} build. Epochs: (number, index/length).",
+        crate::build()
+    );
+    for p in all() {
+        println!("\n{}\n  input:       {}\n  document 01: {}", p.place, p.input, p.document);
+        println!("  the Rust:    {}\n  note:        {}", p.rust, p.note);
+    }
+    println!("\nFields beyond 24 or 16 bits and keys of other lengths than 33 cannot be handed to the Rust:");
+    println!("its epochs are packed, its keys typed. Document 01 answers 14 at 0.");
+}

@@ -1,0 +1,251 @@
+//! Runs cases of a kind: many, one alone, or as lines of the dump.
+
+use crate::document::{Document, InRust};
+use crate::kinds::Kind;
+use crate::port::{Called, Reply};
+use crate::random::Random;
+use crate::reference::calls::Rust;
+use std::collections::{BTreeMap, HashSet};
+use std::fmt;
+use std::time::{Duration, Instant};
+
+pub struct Options {
+    pub seed: u64,
+    /// The first case.
+    pub from: u64,
+    pub rounds: u64,
+    pub seconds: Option<f64>,
+    /// Without it only document 01 and the Rust are compared.
+    pub port: bool,
+}
+
+/// Failing cases shown before a kind is given up.
+const FAILURES_SHOWN: u64 = 3;
+
+/// What a run counted.
+pub struct Tally {
+    kind: &'static str,
+    port: bool,
+    rounds: u64,
+    /// Values by class.
+    values: BTreeMap<&'static str, u64>,
+    /// Rows: outside the equality or not, number, cause.
+    rows: BTreeMap<(bool, u64, &'static str), u64>,
+    pub failures: u64,
+    time: Duration,
+}
+
+impl Tally {
+    fn count<K: Kind>(&mut self, input: &K::Input, document: &Document<K::Value>) {
+        self.rounds += 1;
+        match document {
+            Document::Value(value) => *self.values.entry(K::class(input, value)).or_default() += 1,
+            Document::Row(row, _) => {
+                let outside = row.rust == InRust::Outside;
+                *self.rows.entry((outside, row.number, row.cause)).or_default() += 1;
+            }
+        }
+    }
+
+    fn rows(&self, outside: bool) -> (u64, String) {
+        let rows = self.rows.iter().filter(|(row, _)| row.0 == outside);
+        let text: Vec<String> = rows
+            .clone()
+            .map(|((_, number, cause), count)| format!("row {number} {cause}: {count}"))
+            .collect();
+        (rows.map(|(_, count)| count).sum(), text.join("; "))
+    }
+}
+
+impl fmt::Display for Tally {
+    fn fmt(&self, f: &mut fmt::Formatter<'_>) -> fmt::Result {
+        let (down, down_text) = self.rows(false);
+        let (alone, alone_text) = self.rows(true);
+        let port = if self.port { "" } else { ", THE PORT WAS NOT CALLED" };
+        let seconds = self.time.as_secs_f64();
+        writeln!(
+            f,
+            "{}: {} rounds in {seconds:.1} s, {} failed{port}",
+            self.kind, self.rounds, self.failures
+        )?;
+        let values: u64 = self.values.values().sum();
+        let classes: Vec<String> =
+            self.values.iter().map(|(class, count)| format!("{class}: {count}")).collect();
+        writeln!(f, "  compared with the Rust: {}", values + down)?;
+        let by_class = if classes.len() > 1 { format!(" ({})", classes.join("; ")) } else { String::new() };
+        writeln!(f, "    both answer: {values}{by_class}")?;
+        if down > 0 {
+            writeln!(f, "    both turn down, number from document 01: {down} ({down_text})")?;
+        }
+        if alone > 0 {
+            writeln!(f, "  compared with document 01 alone: {alone} ({alone_text})")?;
+        }
+        Ok(())
+    }
+}
+
+/// The input of a case: first the edges, then the grid, then random ones.
+fn input<K: Kind>(edges: &[K::Input], seed: u64, case: u64) -> K::Input {
+    let count = edges.len() as u64;
+    if case < count {
+        edges[case as usize].clone()
+    } else if case - count < K::grid_size() {
+        K::grid(case - count)
+    } else {
+        K::random(&mut Random::of(seed, K::NAME, case))
+    }
+}
+
+/// The answers of the three sides to one input.
+struct Answers<V> {
+    document: Document<V>,
+    /// None where the case is outside the equality.
+    rust: Option<Rust<V>>,
+    /// None where the port was not called.
+    port: Option<Called<V>>,
+}
+
+fn answers<K: Kind>(input: &K::Input, seed: u64, case: u64, port: bool) -> Answers<K::Value> {
+    let document = K::document(input);
+    Answers {
+        rust: document.inside().then(|| K::rust(input)),
+        port: port.then(|| K::port(input, &mut Random::of(seed, K::EXPORT.0, case))),
+        document,
+    }
+}
+
+impl<V: PartialEq> Answers<V> {
+    /// What is wrong, if anything.
+    fn faults(&self) -> Vec<&'static str> {
+        let mut faults = vec![];
+        let rust_as_document = match (&self.rust, &self.document) {
+            (None, _) => true,
+            (Some(Rust::Value(a)), Document::Value(b)) => a == b,
+            (Some(Rust::TurnedDown), Document::Row(..)) => true,
+            _ => false,
+        };
+        if !rust_as_document {
+            faults.push("the Rust parts from document 01");
+        }
+        let Some(port) = &self.port else {
+            return faults;
+        };
+        let Ok(port) = port else {
+            faults.push("the port broke the calling convention");
+            return faults;
+        };
+        let port_as_document = match (port, &self.document) {
+            (Reply::Value(a), Document::Value(b)) => a == b,
+            (Reply::Refused { number, place }, Document::Row(row, at)) => {
+                *number == row.number && place == at
+            }
+            _ => false,
+        };
+        if !port_as_document {
+            faults.push("the port parts from document 01");
+        }
+        let port_as_rust = match (port, &self.rust) {
+            (_, None) => true,
+            (Reply::Value(a), Some(Rust::Value(b))) => a == b,
+            (Reply::Refused { .. }, Some(Rust::TurnedDown)) => true,
+            _ => false,
+        };
+        if !port_as_rust {
+            faults.push("the port parts from the Rust");
+        }
+        faults
+    }
+
+    fn show<K: Kind<Value = V>>(&self, input: &K::Input) -> String {
+        let document = match &self.document {
+            Document::Value(value) => K::show_value(value),
+            Document::Row(row, place) => format!("refused {} at {place} ({})", row.number, row.cause),
+        };
+        let rust = match &self.rust {
+            None => "not asked: outside the equality".to_string(),
+            Some(Rust::Value(value)) => K::show_value(value),
+            Some(Rust::TurnedDown) => "turned down".to_string(),
+            Some(Rust::Panicked(text)) => format!("panic: {text}"),
+        };
+        let port = match &self.port {
+            None => "not called".to_string(),
+            Some(Err(fault)) => fault.clone(),
+            Some(Ok(Reply::Value(value))) => K::show_value(value),
+            Some(Ok(Reply::Refused { number, place })) => format!("refused {number} at {place}"),
+        };
+        let input = K::show_input(input);
+        format!(
+            "  input:       {input}\n  document 01: {document}\n  the Rust:    {rust}\n  the port:    {port}"
+        )
+    }
+}
+
+pub fn compare<K: Kind>(options: &Options) -> Tally {
+    let start = Instant::now();
+    let mut tally = Tally {
+        kind: K::NAME,
+        port: options.port,
+        rounds: 0,
+        values: BTreeMap::new(),
+        rows: BTreeMap::new(),
+        failures: 0,
+        time: Duration::ZERO,
+    };
+    let edges = K::edges();
+    for case in options.from..options.from.saturating_add(options.rounds) {
+        let input = input::<K>(&edges, options.seed, case);
+        let answers = answers::<K>(&input, options.seed, case, options.port);
+        tally.count::<K>(&input, &answers.document);
+        let faults = answers.faults();
+        if !faults.is_empty() {
+            tally.failures += 1;
+            let flag = if options.port { "" } else { " --no-port" };
+            println!("FAILED: oracle one {} {} {case}{flag}", K::NAME, options.seed);
+            println!("{}\n  because {}", answers.show::<K>(&input), faults.join(", "));
+            if tally.failures == FAILURES_SHOWN {
+                println!("{}: given up after {FAILURES_SHOWN} failing cases", K::NAME);
+                break;
+            }
+        }
+        let check_time = tally.rounds % 64 == 0;
+        if check_time && options.seconds.is_some_and(|limit| start.elapsed().as_secs_f64() >= limit) {
+            break;
+        }
+    }
+    tally.time = start.elapsed();
+    tally
+}
+
+/// Runs one case and prints all answers. True where they agree.
+pub fn one<K: Kind>(seed: u64, case: u64, port: bool) -> bool {
+    let input = input::<K>(&K::edges(), seed, case);
+    let answers = answers::<K>(&input, seed, case, port);
+    let faults = answers.faults();
+    println!("{} case {case} of seed {seed}\n{}", K::NAME, answers.show::<K>(&input));
+    match faults.is_empty() {
+        true => println!("  agreed"),
+        false => println!("  because {}", faults.join(", ")),
+    }
+    faults.is_empty()
+}
+
+/// Lines `kind inputs = answer` with the Rust's answers: the edges first, then random inputs.
+pub fn dump<K: Kind>(seed: u64) -> Vec<String> {
+    let random = (0..).map(|case| K::random_for_dump(&mut Random::of(seed, K::NAME, case)));
+    let mut seen = HashSet::new();
+    K::edges()
+        .into_iter()
+        .chain(random)
+        .filter(|input| K::document(input).inside())
+        .filter_map(|input| {
+            let answer = match K::rust(&input) {
+                Rust::Value(value) => K::show_value(&value),
+                Rust::TurnedDown => "none".to_string(),
+                Rust::Panicked(_) => return None,
+            };
+            Some(format!("{} {} = {answer}", K::NAME, K::show_input(&input)))
+        })
+        .filter(|line| seen.insert(line.clone()))
+        .take(K::DUMP_LINES)
+        .collect()
+}

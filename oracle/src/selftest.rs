@@ -1,0 +1,242 @@
+//! Checks of the oracle itself: published vectors, one implementation against another, document 01's marked rows on
+//! the sliced text. Panics at the first that fails.
+
+use crate::document::{self, Document, Epoch};
+use crate::port;
+use crate::random::Random;
+use crate::reference::calls::{self, Rust, Update};
+use crate::shim::hex;
+use num_bigint::BigUint;
+
+/// SHA-256 of the sliced text at commit 21c4dfbdbd.
+pub const SLICED_DIGEST: &str = "ea9fc73cd66b76129e6bf9cab186d3ccafa2d9c484c2432740cde451b842f293";
+
+pub fn sliced_digest() -> String {
+    hex::encode(document::sha256(crate::reference::SLICED.as_bytes()))
+}
+
+pub fn run() {
+    slices();
+    vectors();
+    second_implementations();
+    marked_rows();
+    document_in_big_numbers();
+    generator();
+    lent_buffers();
+    update_example();
+    choice_example();
+    println!("selftest: all passed, {} build", crate::build());
+}
+
+fn slices() {
+    assert_eq!(sliced_digest(), SLICED_DIGEST, "the sliced text is not that of commit 21c4dfbdbd");
+    println!("slices: {} items, the text of commit 21c4dfbdbd", crate::reference::SLICES.lines().count());
+}
+
+fn vectors() {
+    // RFC 7693, appendix A.
+    let abc = "ba80a53f981c4d0d6a2797b69f12f6e94c212f14685ac4b74b12bb6fdbffa2d1\
+               7d87c5392aab792dc252d5de4533cc9518d38aa8dbf1925ab92386edd4009923";
+    assert_eq!(blake2b_simd::Params::new().hash_length(64).hash(b"abc").to_hex().as_str(), abc);
+    assert_eq!(hex::encode(blake2_rfc::blake2b::blake2b(64, &[], b"abc").as_bytes()), abc);
+    // CKB RFC 0022: the hash of the empty message.
+    let empty = "44f4c69744d5f8c55d642062949dcae49bc4e7ef43d388c5a12f42b5633d163e";
+    assert_eq!(hex::encode(calls::ckb_hash(b"")), empty);
+    assert_eq!(hex::encode(document::ckb_hash(b"")), empty);
+    // FIPS 180-4's examples of one and of two blocks.
+    let two = b"abcdbcdecdefdefgefghfghighijhijkijkljklmklmnlmnomnopnopq".as_slice();
+    for (message, digest) in [
+        (b"abc".as_slice(), "ba7816bf8f01cfea414140de5dae2223b00361a396177a9cb410ff61f20015ad"),
+        (two, "248d6a61d20638b8e5c026930c3e6039a33ce45964ff2167f6ecedd419db06c1"),
+    ] {
+        assert_eq!(hex::encode(calls::sha256(message)), digest);
+        assert_eq!(hex::encode(document::sha256(message)), digest);
+    }
+    println!("published vectors: RFC 7693, CKB RFC 0022, FIPS 180-4");
+}
+
+fn second_implementations() {
+    let mut random = Random::of(1, "second implementations", 0);
+    let lengths = (0..=1200).chain([4095, 4096, 4097, 65_535, 65_536, 1_000_003]);
+    let mut count = 0;
+    for length in lengths {
+        for _ in 0..if length <= 300 { 4 } else { 1 } {
+            let mut message = vec![0; length];
+            random.fill(&mut message);
+            assert_eq!(calls::ckb_hash(&message), document::ckb_hash(&message), "CKB hash, length {length}");
+            assert_eq!(calls::sha256(&message), document::sha256(&message), "SHA-256, length {length}");
+            count += 1;
+        }
+    }
+    for _ in 0..100 {
+        let mut key = [0; 33];
+        random.fill(&mut key);
+        for hash in calls::key_hashes(key) {
+            assert_eq!(Document::Value(hash), document::key_hash(&key));
+        }
+    }
+    println!("second implementations: {count} messages by both hashes, 100 keys at each place of the text");
+}
+
+fn epoch(number: u64, index: u64, length: u64) -> Epoch {
+    Epoch { number, index, length }
+}
+
+/// The rows that document 01 marks, on the sliced text and on src/document.rs.
+fn marked_rows() {
+    for (delay, numerator, answer) in
+        [(epoch(1, 0, 601), 1, epoch(0, 300, 901)), (epoch(1, 300, 601), 2, epoch(0, 901, 901))]
+    {
+        assert_eq!(calls::scale(delay, numerator, 3), Rust::Value(answer));
+        assert_eq!(document::mul(delay, numerator, 3), Document::Value(answer));
+    }
+    for (current, answer) in [(epoch(100, 1, 3), true), (epoch(100, 332, 1000), false)] {
+        let (header, delay) = (epoch(100, 0, 1), epoch(0, 1, 3));
+        assert_eq!(calls::due(header, delay, current), Rust::Value(answer));
+        assert_eq!(document::is_due(header, delay, current), Document::Value(answer));
+    }
+    let seconds = 18_446_744_073_709_551u64;
+    for (value, answer) in [(5, Some(5000)), (seconds, Some(18_446_744_073_709_551_000)), (seconds + 1, None)]
+    {
+        let since = 0x4000_0000_0000_0000 | value;
+        assert_eq!(calls::expiry(since), Rust::Value(answer));
+        assert_eq!(document::absolute_expiry(since), Document::Value(answer));
+    }
+    assert_eq!(calls::read(20, &[0; 74]).map(|read| (read.n, read.unlocks)), Some((0, 0)));
+    assert_eq!(calls::read(20, &[0; 73]), None);
+    println!("document 01's nine marked rows hold in the sliced text");
+}
+
+/// src/document.rs computes in 128 bits: the same in numbers without a bound.
+fn document_in_big_numbers() {
+    let mut random = Random::of(1, "big numbers", 0);
+    let big = |x: u64| BigUint::from(x);
+    let units = |e: Epoch| big(e.number) * big(e.length) + big(e.index);
+    for _ in 0..20_000 {
+        let mut any = || epoch(random.of_width(24), random.of_width(16), random.of_width(16));
+        let (h, d, c) = (any(), any(), any());
+        let (numerator, denominator) = (random.of_width(64), random.of_width(64));
+        let n = big(numerator) * units(d);
+        let m = big(denominator) * big(d.length);
+        let expected = if n.bits() > 64 {
+            Document::Row(document::N_ABOVE_64_BITS, 0)
+        } else if m.bits() > 64 {
+            Document::Row(document::D_ABOVE_64_BITS, 0)
+        } else if m == big(0) {
+            Document::Row(document::D_ZERO, 0)
+        } else if &n / &m > big(16_777_215) {
+            Document::Row(document::WHOLE_PART, 0)
+        } else {
+            let s = if m > big(1800) { &m / big(1800) + big(1) } else { big(1) };
+            let number = |x: BigUint| u64::try_from(x).expect("64 bits");
+            Document::Value(epoch(number(&n / &m), number(&n % &m / &s), number(&m / &s)))
+        };
+        assert_eq!(document::mul(d, numerator, denominator), expected);
+        if [h, d, c].iter().all(|e| e.length > 0) {
+            let (a, b, e) = (big(h.length), big(d.length), big(c.length));
+            let due = units(h) * &b * &e + units(d) * &a * &e <= units(c) * &a * &b;
+            assert_eq!(document::is_due(h, d, c), Document::Value(due));
+        }
+    }
+    println!("document 01's arithmetic: 20000 cases of mul and the due test in big numbers");
+}
+
+/// splitmix64 from state 0, as its authors' program prints it.
+fn generator() {
+    let mut random = Random::with_state(0);
+    assert_eq!(random.next(), 0xe220_a839_7b1d_cdaf);
+    assert_eq!(random.next(), 0x6e78_9e6a_a1b9_65f4);
+    assert_eq!(random.next(), 0x06c4_5d18_8009_454f);
+}
+
+/// What a callee may do with an answer buffer, and what has to be noticed.
+fn lent_buffers() {
+    const SIZE: usize = 24;
+    // Writes `number` and `place`, then `more` bytes behind them, then the byte at `stray`; returns `told`.
+    let callee = |number: u64, place: u64, more: usize, stray: Option<isize>, told: u64, minds: bool| {
+        move |answer: *mut u8, size: usize| {
+            if minds && size < SIZE {
+                return 14;
+            }
+            // SAFETY: `Lent` keeps at least 8 bytes before and 24 behind each buffer, and its bytes are 0 to 255.
+            unsafe {
+                let front = [number.to_le_bytes(), place.to_le_bytes()].concat();
+                answer.copy_from(front.as_ptr(), 16);
+                for at in 16..16 + more {
+                    *answer.add(at) = 0;
+                }
+                if let Some(at) = stray {
+                    let byte = answer.offset(at);
+                    *byte = !*byte;
+                }
+            }
+            told
+        }
+    };
+    let runs = |callee: &dyn Fn(*mut u8, usize) -> u64| {
+        let mut random = Random::of(1, "lent buffers", 0);
+        (0..64).all(|_| port::answered(&mut random, SIZE, callee, |_| Ok(())).is_ok())
+    };
+    assert!(runs(&callee(0, 0, 8, None, 0, true)), "a success that keeps to its bytes");
+    assert!(runs(&callee(7, 3, 0, None, 7, true)), "a refusal that keeps to its bytes");
+    for (what, callee) in [
+        ("a success that writes behind its bytes", callee(0, 0, 8, Some(24), 0, true)),
+        ("a success that writes before its bytes", callee(0, 0, 8, Some(-1), 0, true)),
+        ("a success with a place", callee(0, 1, 8, None, 0, true)),
+        ("a refusal that writes behind number and place", callee(7, 0, 1, None, 7, true)),
+        ("two numbers", callee(7, 0, 0, None, 8, true)),
+        ("a short buffer that is not looked at", callee(7, 0, 0, None, 7, false)),
+        ("a short buffer that is written", callee(14, 0, 0, None, 14, false)),
+    ] {
+        assert!(!runs(&callee), "not noticed: {what}");
+    }
+    println!("lent buffers: seven faults of a callee are noticed");
+}
+
+/// Document 01's example for `settle`.
+fn update_example() {
+    let mut witness = vec![1, 0];
+    witness.extend([0x11; 20]);
+    witness.extend(5u128.to_le_bytes());
+    witness.extend([0x22; 20]);
+    witness.extend(7u128.to_le_bytes());
+    let mut state = witness[1..38].to_vec();
+    state.extend([0; 36]);
+    witness.extend([0xff, 0]);
+    witness.extend([0; 65]);
+    assert_eq!(calls::update(20, &witness), Update::State(state));
+    assert_eq!(calls::unlocks(20, &witness).map(|u| u.len()), Some(67));
+    println!("update: document 01's example");
+}
+
+/// A first settlement without TLCs hands out our share once the full delay is due, and waits before.
+fn choice_example() {
+    let mut args = vec![0; 57];
+    let since: u64 = 0xa000_0000_0000_0000 | 1 << 40 | 3; // relative, epoch (3, 0/1)
+    args[20..28].copy_from_slice(&since.to_le_bytes());
+    let mut case = calls::Case {
+        h: 20,
+        for_remote: true,
+        args,
+        time: 0,
+        header: (10, 0, 1),
+        current: (13, 0, 1),
+        tlcs: vec![],
+        local_amount: 7,
+        remote_amount: 5,
+        local_key: [2; 33],
+        remote_key: [3; 33],
+        tracked: vec![],
+        preimages: vec![],
+        witness: None,
+    };
+    let calls::Choice::Chosen(chosen) = calls::choice(&case) else {
+        panic!("our share is due");
+    };
+    assert_eq!((chosen.unlock[0], chosen.amount, chosen.key), (0xff, 7, None));
+    assert_eq!(chosen.delay, Some((3, 0, 1)));
+    assert_eq!(chosen.state, calls::first_records(&case).expect("no TLCs"));
+    case.current = (12, 1799, 1800);
+    assert_eq!(calls::choice(&case), calls::Choice::Wait(22));
+    println!("choice: a first settlement of our share");
+}
