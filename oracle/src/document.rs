@@ -4,6 +4,8 @@
 
 use std::fmt;
 
+pub mod settlement;
+
 /// Number + index / length.
 #[derive(Clone, Copy, Debug, PartialEq, Eq)]
 pub struct Epoch {
@@ -27,10 +29,12 @@ pub struct Row {
 }
 
 /// What the row is in the Rust.
-#[derive(Clone, Copy, Debug, PartialEq, Eq)]
+#[derive(Clone, Copy, Debug, PartialEq, Eq, PartialOrd, Ord)]
 pub enum InRust {
     /// Turned down there too, without a number.
     TurnedDown,
+    /// Waited for there too; marks of the stand-ins tell the number.
+    Waits,
     /// Outside the equality: added by document 01, or no such input can be handed to the Rust.
     Outside,
 }

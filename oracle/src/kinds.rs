@@ -6,12 +6,19 @@ use crate::port::Called;
 use crate::random::Random;
 use crate::reference::calls::Rust;
 use crate::run::{self, Options, Tally};
+use std::collections::BTreeSet;
 
+mod choice;
 mod due;
 mod expiry;
+mod first;
 mod hash;
 mod key;
 mod mul;
+mod read;
+mod settlement;
+mod update;
+mod witness;
 
 /// One operation, on three sides: document 01, the Rust, the port.
 ///
@@ -23,8 +30,9 @@ pub trait Kind {
 
     const NAME: &'static str;
     const ABOUT: &'static str;
-    /// The export it calls, and whether the library has it.
-    const EXPORT: (&'static str, bool);
+    /// The export it calls, and whether the library has it. None where the port does not export it yet: then
+    /// document 01 and the Rust are compared.
+    const EXPORT: Option<(&'static str, bool)> = None;
     /// How many lines of the dump are its own.
     const DUMP_LINES: usize;
 
@@ -42,7 +50,14 @@ pub trait Kind {
     fn document(input: &Self::Input) -> Document<Self::Value>;
     /// Asked only where document 01 says that the two are equal.
     fn rust(input: &Self::Input) -> Rust<Self::Value>;
-    fn port(input: &Self::Input, random: &mut Random) -> Called<Self::Value>;
+    /// Called only where there is an export.
+    fn port(_input: &Self::Input, _random: &mut Random) -> Called<Self::Value> {
+        unreachable!("no export yet")
+    }
+    /// What else the Rust does that document 01 speaks about and the port does not answer. Asked as `rust` is.
+    fn further(_input: &Self::Input) -> Result<(), &'static str> {
+        Ok(())
+    }
 
     /// What kind of value it is, counted by the comparison.
     fn class(_input: &Self::Input, _value: &Self::Value) -> &'static str {
@@ -58,10 +73,11 @@ pub trait Kind {
 pub struct Entry {
     pub name: &'static str,
     pub about: &'static str,
-    pub export: (&'static str, bool),
+    pub export: Option<(&'static str, bool)>,
     pub compare: fn(&Options) -> Tally,
     pub one: fn(u64, u64, bool) -> bool,
     pub dump: fn(u64) -> Vec<String>,
+    pub reached: fn(u64) -> BTreeSet<String>,
 }
 
 const fn entry<K: Kind>() -> Entry {
@@ -72,6 +88,7 @@ const fn entry<K: Kind>() -> Entry {
         compare: run::compare::<K>,
         one: run::one::<K>,
         dump: run::dump::<K>,
+        reached: run::reached::<K>,
     }
 }
 
@@ -82,6 +99,10 @@ pub const TABLE: &[Entry] = &[
     entry::<key::Key>(),
     entry::<hash::Ckb>(),
     entry::<hash::Sha256>(),
+    entry::<read::Reader>(),
+    entry::<update::Update>(),
+    entry::<first::First>(),
+    entry::<choice::Choice>(),
 ];
 
 // ---- Inputs that several kinds draw ----

@@ -1,6 +1,6 @@
 //! Where document 01 and the Rust part, shown by running the Rust on the smallest input.
 
-use crate::document::{self, Document, Epoch};
+use crate::document::{self, settlement, Document, Epoch};
 use crate::reference::calls::{self, Case, Choice, Rust, Tlc, Update};
 use std::fmt::Display;
 
@@ -23,6 +23,7 @@ fn done<V: Display>(answer: Rust<V>) -> String {
     match answer {
         Rust::Value(value) => value.to_string(),
         Rust::TurnedDown => "turned down, without a number".to_string(),
+        Rust::Wait(number) => format!("waits ({number})"),
         Rust::Panicked(text) => format!("panics: {text}"),
     }
 }
@@ -122,7 +123,10 @@ fn updates() -> Vec<Parting> {
     let twice = |n: u8, unlocks: &[u8]| Parting {
         place: "update, a place settled twice",
         input: format!("h = 20, n = {n}, unlocks {unlocks:?}"),
-        document: format!("6 at {}: place settled twice", 2 + 85 * usize::from(n) + 72 + 67),
+        document: match settlement::update(20, &witness(n, unlocks), usize::MAX) {
+            Document::Value(state) => format!("{} TLCs", state[0]),
+            Document::Row(row, place) => format!("{} at {place}: {}", row.number, row.cause),
+        },
         rust: match calls::update(20, &witness(n, unlocks)) {
             Update::State(state) => {
                 format!("says {} TLCs and writes {} records", state[0], (state.len() - 73) / 85)

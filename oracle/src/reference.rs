@@ -38,31 +38,6 @@ mod fiber_lib {
         include!(concat!(env!("OUT_DIR"), "/due.rs"))
     }
 
-    // Functions of fiber/channel.rs that are not in the text. Document 01, modules 1 and 7: a key hashes as the
-    // first 20 bytes of the CKB hash of its 33 bytes, and these write as the fiber-types functions do.
-
-    fn settlement_tlc_to_witness(
-        tlc: &SettlementTlc,
-        for_remote: bool,
-        features: ChannelFeatures,
-    ) -> Vec<u8> {
-        settlement_tlc_witness(tlc, for_remote, features)
-    }
-
-    fn settlement_data_to_witness(
-        data: &SettlementData,
-        for_remote: bool,
-        features: ChannelFeatures,
-        local: Privkey,
-        remote: Pubkey,
-    ) -> Vec<u8> {
-        settlement_data_witness(data, for_remote, features, local.pubkey(), remote).expect("settlement data")
-    }
-
-    fn settlement_tlc_local_pubkey_hash(tlc: &SettlementTlc) -> [u8; 20] {
-        blake160(tlc.local_key.pubkey().serialize().as_ref()).0
-    }
-
     pub mod calls;
 }
 pub use fiber_lib::calls;

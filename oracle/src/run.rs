@@ -4,8 +4,8 @@ use crate::document::{Document, InRust};
 use crate::kinds::Kind;
 use crate::port::{Called, Reply};
 use crate::random::Random;
-use crate::reference::calls::Rust;
-use std::collections::{BTreeMap, HashSet};
+use crate::reference::calls::{self, Rust};
+use std::collections::{BTreeMap, BTreeSet, HashSet};
 use std::fmt;
 use std::time::{Duration, Instant};
 
@@ -29,8 +29,8 @@ pub struct Tally {
     rounds: u64,
     /// Values by class.
     values: BTreeMap<&'static str, u64>,
-    /// Rows: outside the equality or not, number, cause.
-    rows: BTreeMap<(bool, u64, &'static str), u64>,
+    /// Rows: what they are in the Rust, number, cause.
+    rows: BTreeMap<(InRust, u64, &'static str), u64>,
     pub failures: u64,
     time: Duration,
 }
@@ -40,15 +40,12 @@ impl Tally {
         self.rounds += 1;
         match document {
             Document::Value(value) => *self.values.entry(K::class(input, value)).or_default() += 1,
-            Document::Row(row, _) => {
-                let outside = row.rust == InRust::Outside;
-                *self.rows.entry((outside, row.number, row.cause)).or_default() += 1;
-            }
+            Document::Row(row, _) => *self.rows.entry((row.rust, row.number, row.cause)).or_default() += 1,
         }
     }
 
-    fn rows(&self, outside: bool) -> (u64, String) {
-        let rows = self.rows.iter().filter(|(row, _)| row.0 == outside);
+    fn rows(&self, rust: InRust) -> (u64, String) {
+        let rows = self.rows.iter().filter(|(row, _)| row.0 == rust);
         let text: Vec<String> = rows
             .clone()
             .map(|((_, number, cause), count)| format!("row {number} {cause}: {count}"))
@@ -59,8 +56,9 @@ impl Tally {
 
 impl fmt::Display for Tally {
     fn fmt(&self, f: &mut fmt::Formatter<'_>) -> fmt::Result {
-        let (down, down_text) = self.rows(false);
-        let (alone, alone_text) = self.rows(true);
+        let (down, down_text) = self.rows(InRust::TurnedDown);
+        let (waits, waits_text) = self.rows(InRust::Waits);
+        let (alone, alone_text) = self.rows(InRust::Outside);
         let port = if self.port { "" } else { ", THE PORT WAS NOT CALLED" };
         let seconds = self.time.as_secs_f64();
         writeln!(
@@ -71,11 +69,14 @@ impl fmt::Display for Tally {
         let values: u64 = self.values.values().sum();
         let classes: Vec<String> =
             self.values.iter().map(|(class, count)| format!("{class}: {count}")).collect();
-        writeln!(f, "  compared with the Rust: {}", values + down)?;
+        writeln!(f, "  compared with the Rust: {}", values + down + waits)?;
         let by_class = if classes.len() > 1 { format!(" ({})", classes.join("; ")) } else { String::new() };
         writeln!(f, "    both answer: {values}{by_class}")?;
         if down > 0 {
             writeln!(f, "    both turn down, number from document 01: {down} ({down_text})")?;
+        }
+        if waits > 0 {
+            writeln!(f, "    both wait: {waits} ({waits_text})")?;
         }
         if alone > 0 {
             writeln!(f, "  compared with document 01 alone: {alone} ({alone_text})")?;
@@ -103,13 +104,22 @@ struct Answers<V> {
     rust: Option<Rust<V>>,
     /// None where the port was not called.
     port: Option<Called<V>>,
+    /// What else of the Rust was held against document 01.
+    further: Result<(), &'static str>,
 }
 
 fn answers<K: Kind>(input: &K::Input, seed: u64, case: u64, port: bool) -> Answers<K::Value> {
     let document = K::document(input);
     Answers {
-        rust: document.inside().then(|| K::rust(input)),
-        port: port.then(|| K::port(input, &mut Random::of(seed, K::EXPORT.0, case))),
+        rust: document.inside().then(|| calls::caught(|| K::rust(input))),
+        port: match K::EXPORT {
+            Some((export, _)) if port => Some(K::port(input, &mut Random::of(seed, export, case))),
+            _ => None,
+        },
+        further: match document.inside() {
+            true => calls::caught_or(Err("the Rust panics"), || K::further(input)),
+            false => Ok(()),
+        },
         document,
     }
 }
@@ -121,12 +131,16 @@ impl<V: PartialEq> Answers<V> {
         let rust_as_document = match (&self.rust, &self.document) {
             (None, _) => true,
             (Some(Rust::Value(a)), Document::Value(b)) => a == b,
-            (Some(Rust::TurnedDown), Document::Row(..)) => true,
+            (Some(Rust::TurnedDown), Document::Row(row, _)) => row.rust == InRust::TurnedDown,
+            (Some(Rust::Wait(number)), Document::Row(row, _)) => {
+                row.rust == InRust::Waits && row.number == *number
+            }
             _ => false,
         };
         if !rust_as_document {
             faults.push("the Rust parts from document 01");
         }
+        faults.extend(self.further.err());
         let Some(port) = &self.port else {
             return faults;
         };
@@ -148,6 +162,7 @@ impl<V: PartialEq> Answers<V> {
             (_, None) => true,
             (Reply::Value(a), Some(Rust::Value(b))) => a == b,
             (Reply::Refused { .. }, Some(Rust::TurnedDown)) => true,
+            (Reply::Refused { number, .. }, Some(Rust::Wait(wait))) => number == wait,
             _ => false,
         };
         if !port_as_rust {
@@ -165,6 +180,7 @@ impl<V: PartialEq> Answers<V> {
             None => "not asked: outside the equality".to_string(),
             Some(Rust::Value(value)) => K::show_value(value),
             Some(Rust::TurnedDown) => "turned down".to_string(),
+            Some(Rust::Wait(number)) => format!("waits ({number})"),
             Some(Rust::Panicked(text)) => format!("panic: {text}"),
         };
         let port = match &self.port {
@@ -180,11 +196,24 @@ impl<V: PartialEq> Answers<V> {
     }
 }
 
+/// The numbers and classes that document 01 answers in the first cases.
+pub fn reached<K: Kind>(cases: u64) -> BTreeSet<String> {
+    let edges = K::edges();
+    let answer = |case| {
+        let input = input::<K>(&edges, 1, case);
+        match K::document(&input) {
+            Document::Value(value) => K::class(&input, &value).to_string(),
+            Document::Row(row, _) => row.number.to_string(),
+        }
+    };
+    (0..cases).map(answer).collect()
+}
+
 pub fn compare<K: Kind>(options: &Options) -> Tally {
     let start = Instant::now();
     let mut tally = Tally {
         kind: K::NAME,
-        port: options.port,
+        port: options.port && K::EXPORT.is_some(),
         rounds: 0,
         values: BTreeMap::new(),
         rows: BTreeMap::new(),
@@ -241,6 +270,7 @@ pub fn dump<K: Kind>(seed: u64) -> Vec<String> {
             let answer = match K::rust(&input) {
                 Rust::Value(value) => K::show_value(&value),
                 Rust::TurnedDown => "none".to_string(),
+                Rust::Wait(number) => format!("wait {number}"),
                 Rust::Panicked(_) => return None,
             };
             Some(format!("{} {} = {answer}", K::NAME, K::show_input(&input)))

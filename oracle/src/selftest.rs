@@ -1,7 +1,9 @@
 //! Checks of the oracle itself: published vectors, one implementation against another, document 01's marked rows on
 //! the sliced text. Panics at the first that fails.
 
+use crate::document::settlement::{self, Asked, Data};
 use crate::document::{self, Document, Epoch};
+use crate::kinds::TABLE;
 use crate::port;
 use crate::random::Random;
 use crate::reference::calls::{self, Rust, Update};
@@ -25,6 +27,8 @@ pub fn run() {
     lent_buffers();
     update_example();
     choice_example();
+    order_of_rows();
+    reached();
     println!("selftest: all passed, {} build", crate::build());
 }
 
@@ -104,6 +108,9 @@ fn marked_rows() {
     }
     assert_eq!(calls::read(20, &[0; 74]).map(|read| (read.n, read.unlocks)), Some((0, 0)));
     assert_eq!(calls::read(20, &[0; 73]), None);
+    let read = settlement::Read { n: 0, unlocks: 0, shares: 2, first: 74 };
+    assert_eq!(settlement::read(20, &[0; 74]), Document::Value(read));
+    assert_eq!(settlement::read(20, &[0; 73]), Document::Row(settlement::SHARES_CUT, 2));
     println!("document 01's nine marked rows hold in the sliced text");
 }
 
@@ -204,6 +211,8 @@ fn update_example() {
     state.extend([0; 36]);
     witness.extend([0xff, 0]);
     witness.extend([0; 65]);
+    assert_eq!(settlement::update(20, &witness, 73), Document::Value(state.clone()));
+    assert_eq!(settlement::update(20, &witness, 72), Document::Row(settlement::OUTPUT_SHORT, 73));
     assert_eq!(calls::update(20, &witness), Update::State(state));
     assert_eq!(calls::unlocks(20, &witness).map(|u| u.len()), Some(67));
     println!("update: document 01's example");
@@ -239,4 +248,94 @@ fn choice_example() {
     case.current = (12, 1799, 1800);
     assert_eq!(calls::choice(&case), calls::Choice::Wait(22));
     println!("choice: a first settlement of our share");
+}
+
+/// Document 01's order at the choice: a case with every fault, of which the first is mended again and again.
+fn order_of_rows() {
+    let key = [2; 33];
+    let hash = document::ckb_hash(&key)[..20].to_vec();
+    // Nothing qualifies: a TLC of zeros has no expiry. One more unlock is faulty, and the one behind it cut short.
+    let state = [vec![1], vec![0; 85], vec![7; 36], hash.clone(), vec![0; 16]].concat();
+    let [faulty, cut] = [[0x80; 67], [0; 67]].map(|unlock| unlock.to_vec());
+    let [whole, other] = [vec![0; 33 + 85], vec![1; 33 + 85]];
+    let mut asked = Asked {
+        h: 21,
+        for_remote: true,
+        args: vec![0; 35],
+        time: 0,
+        header: epoch(0, 0, 0),
+        current: epoch(0, 0, 0),
+        data: Data {
+            tlcs: vec![],
+            local_amount: 0,
+            remote_amount: 0,
+            local_key: vec![3; 33],
+            remote_key: key.to_vec(),
+        },
+        tracked: other,
+        preimages: vec![],
+        witness: Some([&[0], &state[..], &faulty, &cut[1..]].concat()),
+        output: 0,
+    };
+    let expect = |asked: &Asked, number: u64, place: u64| match settlement::choice(asked) {
+        Document::Row(row, at) => assert_eq!((row.number, at), (number, place), "{}", row.cause),
+        Document::Value(_) => panic!("chosen, where {number} was expected"),
+    };
+    expect(&asked, 14, 0);
+    asked.h = 20;
+    expect(&asked, 10, 0);
+    asked.args = vec![0; 57];
+    expect(&asked, 11, 0);
+    asked.args[27] = 0xbf;
+    expect(&asked, 4, 1 + 158 + 67);
+    asked.witness = Some([&[0], &state[..], &faulty].concat());
+    expect(&asked, 5, 1 + 158);
+    asked.witness = Some([&[0], &state[..], &cut, &cut].concat());
+    expect(&asked, 6, 1 + 158 + 67);
+    // Epoch lengths of 0 are not looked at in a later settlement.
+    asked.witness = Some([&[0], &state[..]].concat());
+    expect(&asked, 20, 0);
+    asked.tracked = whole;
+    expect(&asked, 21, 0);
+    asked.data.local_key = key.to_vec();
+    expect(&asked, 22, 0);
+    asked.tracked = vec![];
+    asked.witness = Some([&[0], &state[..], &cut].concat());
+    expect(&asked, 13, 67 + 73 + 57);
+    asked.output = 67 + 73 + 57;
+    assert!(matches!(settlement::choice(&asked), Document::Value(_)));
+    // A first settlement: 7 before 12 before 20.
+    asked.witness = None;
+    asked.tracked = vec![1; 118];
+    asked.data.tlcs = vec![0; 255 * 124];
+    expect(&asked, 7, 0);
+    asked.args[25] = 1;
+    (asked.header, asked.current) = (epoch(0, 0, 1), epoch(0, 0, 1));
+    expect(&asked, 12, 0);
+    asked.data.tlcs.truncate(254 * 124);
+    expect(&asked, 20, 0);
+    println!("choice: document 01's order of rows");
+}
+
+/// The first cases of a kind reach every row that it has, and every kind of choice.
+fn reached() {
+    let all: [(&str, &[&str]); 4] = [
+        ("read", &["1", "2", "3", "4", "14", "n 253 to 255", "TLCs, unlocks"]),
+        ("update", &["1", "2", "3", "4", "5", "6", "13", "14", "state as before", "more TLCs settled"]),
+        ("first", &["12", "13", "14", "no TLCs", "one TLC", "more TLCs", "253 to 255 TLCs"]),
+        ("choice", &["1", "2", "3", "4", "5", "6", "7", "10", "11", "12", "13", "14", "20", "21", "22"]),
+    ];
+    let choices = ["share", "TLC by timeout", "TLC by preimage"];
+    for (kind, rows) in all {
+        let entry = TABLE.iter().find(|entry| entry.name == kind).expect("a kind");
+        let reached = (entry.reached)(30_000);
+        let mut expected: Vec<String> = rows.iter().map(|row| row.to_string()).collect();
+        if kind == "choice" {
+            expected.extend(choices.iter().flat_map(|c| [format!("first, {c}"), format!("later, {c}")]));
+        }
+        for one in expected {
+            assert!(reached.contains(&one), "{kind}: `{one}` is not reached");
+        }
+    }
+    println!("read, update, first, choice: every row and every kind of choice is reached");
 }

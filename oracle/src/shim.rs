@@ -1,7 +1,9 @@
 //! Hand-written stand-ins for what the reference's text takes from crates and files that are not at hand.
 //! Each says on what it rests. "Document 01" is the port's scope document.
 
-use crate::reference::fiber_types::Pubkey;
+use crate::reference::fiber_types::{
+    settlement_data_witness, settlement_tlc_witness, ChannelFeatures, Pubkey, SettlementData, SettlementTlc,
+};
 use std::cell::Cell as Shared;
 
 // ---- Logging. Rests on nothing: the text is type-checked and never written. ----
@@ -278,4 +280,31 @@ pub struct TransactionView {
     pub new_args: Vec<u8>,
     pub is_first_settlement: bool,
     pub delay: EpochNumberWithFraction,
+}
+
+// ---- functions of fiber/channel.rs ----
+
+// Not in the text. Document 01, modules 1 and 7: a key hashes as the
+// first 20 bytes of the CKB hash of its 33 bytes, and these write as the fiber-types functions do.
+
+pub fn settlement_tlc_to_witness(
+    tlc: &SettlementTlc,
+    for_remote: bool,
+    features: ChannelFeatures,
+) -> Vec<u8> {
+    settlement_tlc_witness(tlc, for_remote, features)
+}
+
+pub fn settlement_data_to_witness(
+    data: &SettlementData,
+    for_remote: bool,
+    features: ChannelFeatures,
+    local: Privkey,
+    remote: Pubkey,
+) -> Vec<u8> {
+    settlement_data_witness(data, for_remote, features, local.pubkey(), remote).expect("settlement data")
+}
+
+pub fn settlement_tlc_local_pubkey_hash(tlc: &SettlementTlc) -> [u8; 20] {
+    blake160(tlc.local_key.pubkey().serialize().as_ref()).0
 }

@@ -31,7 +31,7 @@ impl Kind for Due {
 
     const NAME: &'static str = "due";
     const ABOUT: &'static str = "header epoch + delay <= current epoch";
-    const EXPORT: (&'static str, bool) = ("fiber_test_is_due", port::IS_DUE.is_some());
+    const EXPORT: Option<(&'static str, bool)> = Some(("fiber_test_is_due", port::IS_DUE.is_some()));
     const DUMP_LINES: usize = 250;
 
     fn edges() -> Vec<Input> {

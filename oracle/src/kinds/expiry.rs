@@ -34,7 +34,8 @@ impl Kind for Expiry {
 
     const NAME: &'static str = "expiry";
     const ABOUT: &'static str = "milliseconds of an absolute timestamp since";
-    const EXPORT: (&'static str, bool) = ("fiber_test_absolute_expiry", port::ABSOLUTE_EXPIRY.is_some());
+    const EXPORT: Option<(&'static str, bool)> =
+        Some(("fiber_test_absolute_expiry", port::ABSOLUTE_EXPIRY.is_some()));
     const DUMP_LINES: usize = 250;
 
     fn edges() -> Vec<u64> {

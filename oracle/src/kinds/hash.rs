@@ -69,7 +69,7 @@ macro_rules! hash_kind {
 
             const NAME: &'static str = $name;
             const ABOUT: &'static str = $about;
-            const EXPORT: (&'static str, bool) = ($export, port::$port.is_some());
+            const EXPORT: Option<(&'static str, bool)> = Some(($export, port::$port.is_some()));
             const DUMP_LINES: usize = 56;
 
             fn edges() -> Vec<Message> {

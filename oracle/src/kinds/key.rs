@@ -14,7 +14,7 @@ impl Kind for Key {
 
     const NAME: &'static str = "key";
     const ABOUT: &'static str = "the hash of a public key";
-    const EXPORT: (&'static str, bool) = ("fiber_test_key_hash", port::KEY_HASH.is_some());
+    const EXPORT: Option<(&'static str, bool)> = Some(("fiber_test_key_hash", port::KEY_HASH.is_some()));
     const DUMP_LINES: usize = 60;
 
     fn edges() -> Vec<Vec<u8>> {

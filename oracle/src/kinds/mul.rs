@@ -39,7 +39,7 @@ impl Kind for Mul {
 
     const NAME: &'static str = "mul";
     const ABOUT: &'static str = "an epoch scaled by a fraction";
-    const EXPORT: (&'static str, bool) = ("fiber_test_mul", port::MUL.is_some());
+    const EXPORT: Option<(&'static str, bool)> = Some(("fiber_test_mul", port::MUL.is_some()));
     const DUMP_LINES: usize = 300;
 
     fn edges() -> Vec<Input> {

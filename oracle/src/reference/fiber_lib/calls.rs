@@ -10,15 +10,22 @@ pub enum Rust<V> {
     Value(V),
     /// `None`, `Err` or `false`: the Rust gives no number and no place.
     TurnedDown,
+    /// Nothing to do yet: 20, 21 or 22.
+    Wait(u64),
     Panicked(String),
 }
 
-fn caught<V>(call: impl FnOnce() -> Rust<V>) -> Rust<V> {
+pub fn caught<V>(call: impl FnOnce() -> Rust<V>) -> Rust<V> {
     catch_unwind(AssertUnwindSafe(call)).unwrap_or_else(|panic| {
         let text = panic.downcast_ref::<String>().cloned();
         let text = text.or_else(|| panic.downcast_ref::<&str>().map(|t| t.to_string()));
         Rust::Panicked(text.unwrap_or_default())
     })
+}
+
+/// The call's answer, or this one where it panics.
+pub fn caught_or<V>(other: V, call: impl FnOnce() -> V) -> V {
+    catch_unwind(AssertUnwindSafe(call)).unwrap_or(other)
 }
 
 // ---- Epochs and since values ----

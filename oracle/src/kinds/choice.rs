@@ -1,0 +1,215 @@
+//! `choice`: what is unlocked next, in a first and in a later settlement. Document 01, module 8 and "The choice".
+
+use super::first::{case, show_data};
+use super::settlement::{consistent, disturb, lent, since_of, Tlc, AMPLE};
+use super::{epoch, hex, Kind};
+use crate::document::settlement::{self, Asked, Chosen};
+use crate::document::{Document, Epoch};
+use crate::random::Random;
+use crate::reference::calls::{self, Rust};
+
+pub struct Choice;
+
+/// A first settlement with delay (3, 0/1) at time 6000, of TLCs that are lent in order.
+fn plain(for_remote: bool, tlcs: &[Tlc], now: Epoch) -> Asked {
+    let mut args: Vec<u8> = (0..57).collect();
+    args[20..28].copy_from_slice(&since_of(epoch(3, 0, 1)).to_le_bytes());
+    let data = lent(tlcs, [4; 33], [5; 33]);
+    let mut tracked = vec![];
+    let Document::Value(state) = settlement::first(20, for_remote, &data, AMPLE) else {
+        unreachable!("few TLCs")
+    };
+    for (tlc, record) in tlcs.iter().zip(state[1..].chunks(85)) {
+        tracked.extend(tlc.hash());
+        tracked.push(tlc.algorithm);
+        tracked.extend(record);
+    }
+    Asked {
+        h: 20,
+        for_remote,
+        args,
+        time: 6000,
+        header: epoch(10, 0, 1),
+        current: now,
+        data,
+        tracked,
+        preimages: vec![],
+        witness: None,
+        output: AMPLE,
+    }
+}
+
+/// The same as a later settlement, without unlocks.
+fn as_later(asked: &Asked) -> Asked {
+    let Document::Value(state) = settlement::first(asked.h, asked.for_remote, &asked.data, AMPLE) else {
+        unreachable!("few TLCs")
+    };
+    Asked { witness: Some([vec![0], state].concat()), ..asked.clone() }
+}
+
+fn tlc(received: bool, algorithm: u8, expiry: u64, tag: u8) -> Tlc {
+    Tlc {
+        received,
+        algorithm,
+        amount: 100 + u128::from(tag),
+        preimage: [tag; 32],
+        expiry,
+        local: [10 + tag; 33],
+        remote: [20 + tag; 33],
+    }
+}
+
+impl Kind for Choice {
+    type Input = Asked;
+    type Value = Chosen;
+
+    const NAME: &'static str = "choice";
+    const ABOUT: &'static str = "the next unlock";
+    const DUMP_LINES: usize = 0;
+
+    fn edges() -> Vec<Asked> {
+        let mut edges = vec![];
+        let nows = [
+            epoch(10, 0, 1),
+            epoch(10, 999, 1000),
+            epoch(11, 0, 1),
+            epoch(11, 999, 1000),
+            epoch(12, 0, 1),
+            epoch(12, 999, 1000),
+            epoch(13, 0, 1),
+            epoch(14, 0, 0),
+        ];
+        for for_remote in [true, false] {
+            for received in [true, false] {
+                for algorithm in [0, 1] {
+                    // Expiries around the time, of which 5,999 ms is 5,000 after the witness.
+                    for expiry in [4999, 5000, 5999, 6000, 6001, 7000] {
+                        for now in nows {
+                            let one = tlc(received, algorithm, expiry, 1);
+                            let two = tlc(!received, 1 - algorithm, 0, 2);
+                            let mut asked = plain(for_remote, &[one.clone()], now);
+                            edges.push(asked.clone());
+                            asked.preimages = [one.hash(), one.preimage].concat();
+                            edges.push(asked);
+                            let mut both = plain(for_remote, &[one.clone(), two.clone()], now);
+                            edges.push(both.clone());
+                            both.preimages = [two.hash(), two.preimage].concat();
+                            edges.push(both);
+                        }
+                    }
+                }
+            }
+            edges.extend(nows.map(|now| plain(for_remote, &[], now)));
+        }
+        let later: Vec<Asked> = edges.iter().map(as_later).collect();
+        edges.extend(later);
+        // 253, 254 and 255 TLCs, of which the last alone can be settled.
+        for count in [253, 254, 255] {
+            for for_remote in [true, false] {
+                let mut tlcs = vec![tlc(!for_remote, 0, u64::MAX, 1); count];
+                tlcs[count - 1].expiry = 0;
+                tlcs[count - 1].local = [9; 33];
+                let asked = plain(for_remote, &tlcs, epoch(13, 0, 1));
+                edges.push(as_later(&asked));
+                edges.push(asked);
+            }
+        }
+        edges
+    }
+
+    /// Every length of the args, and every byte that tells their since value's kind.
+    fn grid_size() -> u64 {
+        2 * 2 * (61 + 256)
+    }
+
+    fn grid(place: u64) -> Asked {
+        let mut next = super::digits(place);
+        let (for_remote, is_later, what) = (next(2) == 1, next(2) == 1, next(61 + 256));
+        let mut asked = plain(for_remote, &[tlc(!for_remote, 0, 0, 1)], epoch(13, 0, 1));
+        if is_later {
+            asked = as_later(&asked);
+        }
+        match what {
+            0..=60 => asked.args.resize(what as usize, 0x77),
+            _ => asked.args[27] = (what - 61) as u8,
+        }
+        asked
+    }
+
+    fn random(random: &mut Random) -> Asked {
+        let mut asked = consistent(random);
+        if random.one_in(2) {
+            disturb(random, &mut asked);
+        }
+        if random.one_in(12) {
+            if let Document::Value(chosen) = settlement::choice(&asked) {
+                asked.output = match random.below(4) {
+                    0 => random.below(chosen.output() as u64) as usize,
+                    _ => random.near(chosen.output() as u64) as usize,
+                };
+            }
+        }
+        asked
+    }
+
+    fn document(asked: &Asked) -> Document<Chosen> {
+        settlement::choice(asked)
+    }
+
+    fn rust(asked: &Asked) -> Rust<Chosen> {
+        match calls::choice(&case(asked)) {
+            calls::Choice::Chosen(c) => Rust::Value(Chosen {
+                unlock: c.unlock,
+                state: c.state,
+                new_args: c.new_args,
+                amount: c.amount,
+                key: c.key,
+                delay: c.delay.map(|(number, index, length)| Epoch { number, index, length }),
+            }),
+            calls::Choice::Wait(number) => Rust::Wait(number.into()),
+            calls::Choice::Unread | calls::Choice::Error(_) => Rust::TurnedDown,
+            // Its way to turn down args that are too short to hold a since value.
+            calls::Choice::Panic if asked.args.len() < 28 => Rust::TurnedDown,
+            calls::Choice::Panic => Rust::Panicked(String::new()),
+        }
+    }
+
+    fn class(asked: &Asked, chosen: &Chosen) -> &'static str {
+        let share = chosen.key.is_none();
+        match (asked.witness.is_some(), share, chosen.unlock[1]) {
+            (false, true, _) => "first, share",
+            (false, false, 0) => "first, TLC by timeout",
+            (false, false, _) => "first, TLC by preimage",
+            (true, true, _) if chosen.state[0] > 0 => "later, share beside TLCs",
+            (true, true, _) => "later, share",
+            (true, false, 0) => "later, TLC by timeout",
+            (true, false, _) => "later, TLC by preimage",
+        }
+    }
+
+    fn show_input(asked: &Asked) -> String {
+        format!(
+            "{} {} {} {} {} {} {} {}",
+            show_data(asked.h, asked.for_remote, &asked.data, asked.output),
+            hex(&asked.args),
+            asked.time,
+            asked.header,
+            asked.current,
+            hex(&asked.tracked),
+            hex(&asked.preimages),
+            asked.witness.as_deref().map_or("none".to_string(), hex)
+        )
+    }
+
+    fn show_value(chosen: &Chosen) -> String {
+        format!(
+            "{} {} {} {} {} {}",
+            hex(&chosen.unlock),
+            hex(&chosen.state),
+            hex(&chosen.new_args),
+            chosen.amount,
+            chosen.key.map_or("settlement key".to_string(), |place| place.to_string()),
+            chosen.delay.map_or("no delay".to_string(), |delay| delay.to_string())
+        )
+    }
+}

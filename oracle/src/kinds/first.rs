@@ -1,0 +1,211 @@
+//! `first`: the first state, `settlement_data_witness`, and in it each record of `settlement_tlc_witness`. Document
+//! 01, module 7.
+
+use super::settlement::{self as generator, lent, other_h, some_data, some_tlcs, Mood, Tlc, AMPLE, TLC};
+use super::witness::some_count;
+use super::{hex, Kind};
+use crate::document::settlement::{self, Asked, Data};
+use crate::document::Document;
+use crate::random::Random;
+use crate::reference::calls::{self, Case, Rust};
+
+pub struct First;
+
+#[derive(Clone)]
+pub struct Input {
+    h: u64,
+    for_remote: bool,
+    data: Data,
+    output: usize,
+}
+
+/// The Rust's case. Lists have to be whole.
+pub fn case(asked: &Asked) -> Case {
+    let array = |bytes: &[u8]| bytes.try_into().expect("32 bytes");
+    let key = |bytes: &[u8]| bytes.try_into().expect("33 bytes");
+    let fields = |e: crate::document::Epoch| (e.number, e.index, e.length);
+    let tlc = |t: &settlement::Tlc| calls::Tlc {
+        received: t.received,
+        alg: t.algorithm,
+        amount: t.amount,
+        hash: array(t.hash),
+        expiry: t.expiry,
+        local: key(t.local),
+        remote: key(t.remote),
+    };
+    let tracked = |t: &settlement::Tracked| calls::Tracked {
+        hash: array(t.hash),
+        alg: t.algorithm,
+        record: t.record.to_vec(),
+    };
+    Case {
+        h: asked.h as u8,
+        for_remote: asked.for_remote,
+        args: asked.args.clone(),
+        time: asked.time,
+        header: fields(asked.header),
+        current: fields(asked.current),
+        tlcs: asked.data.list().iter().map(tlc).collect(),
+        local_amount: asked.data.local_amount,
+        remote_amount: asked.data.remote_amount,
+        local_key: key(&asked.data.local_key),
+        remote_key: key(&asked.data.remote_key),
+        tracked: asked.tracked().iter().map(tracked).collect(),
+        preimages: asked.preimages.chunks(64).map(|pair| (array(&pair[..32]), array(&pair[32..]))).collect(),
+        witness: asked.witness.clone(),
+    }
+}
+
+fn first_case(i: &Input) -> Case {
+    let zero = super::epoch(0, 0, 1);
+    case(&Asked {
+        h: i.h,
+        for_remote: i.for_remote,
+        args: vec![],
+        time: 0,
+        header: zero,
+        current: zero,
+        data: i.data.clone(),
+        tracked: vec![],
+        preimages: vec![],
+        witness: None,
+        output: 0,
+    })
+}
+
+fn plain(place: usize) -> Tlc {
+    Tlc {
+        received: place % 2 == 1,
+        algorithm: (place / 2 % 2) as u8,
+        amount: place as u128 + 1,
+        preimage: [place as u8; 32],
+        expiry: [0, 999, 1000, 5999, u64::MAX][place % 5],
+        local: [2; 33],
+        remote: [3; 33],
+    }
+}
+
+impl Kind for First {
+    type Input = Input;
+    /// The state.
+    type Value = Vec<u8>;
+
+    const NAME: &'static str = "first";
+    const ABOUT: &'static str = "the first state";
+    const DUMP_LINES: usize = 0;
+
+    fn edges() -> Vec<Input> {
+        let mut edges = vec![];
+        for h in [20, 32, 0, 19, 21, 31, 33, 256 + 20, u64::MAX] {
+            for for_remote in [true, false] {
+                for count in [0, 1, 2, 3, 4, 5] {
+                    let tlcs: Vec<Tlc> = (0..count).map(plain).collect();
+                    let data = lent(&tlcs, [4; 33], [5; 33]);
+                    edges.push(Input { h, for_remote, data, output: AMPLE });
+                }
+            }
+        }
+        for count in [253, 254, 255, 256, 257, 300, 512] {
+            let tlcs: Vec<Tlc> = (0..count).map(plain).collect();
+            let data = lent(&tlcs, [4; 33], [5; 33]);
+            edges.push(Input { h: 20, for_remote: true, data: data.clone(), output: AMPLE });
+            edges.push(Input { h: 32, for_remote: false, data, output: 72 });
+        }
+        edges
+    }
+
+    /// Every output length around that of none, one and two TLCs.
+    fn grid_size() -> u64 {
+        2 * 2 * 3 * 280
+    }
+
+    fn grid(place: u64) -> Input {
+        let mut next = super::digits(place);
+        let (h, for_remote, count) = ([20, 32][next(2) as usize], next(2) == 1, next(3) as usize);
+        let tlcs: Vec<Tlc> = (0..count).map(plain).collect();
+        Input { h, for_remote, data: lent(&tlcs, [4; 33], [5; 33]), output: next(280) as usize }
+    }
+
+    fn random(random: &mut Random) -> Input {
+        let mut h = random.pick(&[20, 32]);
+        if random.one_in(60) {
+            h = other_h(random, h);
+        }
+        let time = generator::some_time(random);
+        let mood = Mood { for_remote: random.one_in(2), time, share: false };
+        let count = match random.below(500) {
+            0 => random.pick(&[253, 254, 255, 256, 257, 300]),
+            _ => usize::from(some_count(random)),
+        };
+        let tlcs = some_tlcs(random, mood, count);
+        let mut data = some_data(random, &tlcs);
+        if random.one_in(4) {
+            generator::disturb_data(random, &mut data);
+        }
+        let needed = 73 + data.tlcs.len() / TLC * (65 + (h as usize & 0xff));
+        let output = match random.below(10) {
+            0 => random.near(needed as u64) as usize,
+            1 => random.below(needed as u64) as usize,
+            _ => AMPLE,
+        };
+        Input { h, for_remote: mood.for_remote, data, output }
+    }
+
+    fn document(i: &Input) -> Document<Vec<u8>> {
+        settlement::first(i.h, i.for_remote, &i.data, i.output)
+    }
+
+    fn rust(i: &Input) -> Rust<Vec<u8>> {
+        match calls::first_records(&first_case(i)) {
+            Ok(state) => Rust::Value(state),
+            Err(_) => Rust::TurnedDown,
+        }
+    }
+
+    fn further(i: &Input) -> Result<(), &'static str> {
+        let Document::Value(state) = Self::document(i) else {
+            return Ok(());
+        };
+        let case = first_case(i);
+        let records: Vec<Vec<u8>> =
+            (0..case.tlcs.len()).map(|place| calls::tlc_record(&case, place)).collect();
+        if records.concat() != state[1..state.len() - 72] {
+            return Err("the Rust's single records part from document 01");
+        }
+        let tracked = calls::tracked(&case);
+        let same = tracked.iter().zip(&case.tlcs).all(|(t, tlc)| t.hash == tlc.hash && t.alg == tlc.alg);
+        if !same || !tracked.iter().map(|t| &t.record).eq(&records) {
+            return Err("the Rust's tracked list parts from document 01");
+        }
+        Ok(())
+    }
+
+    fn class(_: &Input, state: &Vec<u8>) -> &'static str {
+        match state[0] {
+            0 => "no TLCs",
+            1 => "one TLC",
+            253.. => "253 to 255 TLCs",
+            _ => "more TLCs",
+        }
+    }
+
+    fn show_input(i: &Input) -> String {
+        show_data(i.h, i.for_remote, &i.data, i.output)
+    }
+
+    fn show_value(state: &Vec<u8>) -> String {
+        hex(state)
+    }
+}
+
+pub fn show_data(h: u64, for_remote: bool, data: &Data, output: usize) -> String {
+    format!(
+        "{h} {} {} {} {} {} {} {output}",
+        u8::from(for_remote),
+        hex(&data.tlcs),
+        data.local_amount,
+        data.remote_amount,
+        hex(&data.local_key),
+        hex(&data.remote_key)
+    )
+}

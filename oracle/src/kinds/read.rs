@@ -1,0 +1,79 @@
+//! `read`: the reader's answer to a witness. Document 01, modules 5 and 6.
+
+use super::witness::{self, Input};
+use super::{hex, Kind};
+use crate::document::settlement::{self, Read};
+use crate::document::Document;
+use crate::random::Random;
+use crate::reference::calls::{self, Rust};
+
+pub struct Reader;
+
+impl Kind for Reader {
+    type Input = Input;
+    type Value = Read;
+
+    const NAME: &'static str = "read";
+    const ABOUT: &'static str = "a witness read";
+    const DUMP_LINES: usize = 0;
+
+    fn edges() -> Vec<Input> {
+        witness::edges()
+    }
+
+    fn grid_size() -> u64 {
+        witness::GRID
+    }
+
+    fn grid(place: u64) -> Input {
+        witness::grid(place)
+    }
+
+    fn random(random: &mut Random) -> Input {
+        witness::random(random)
+    }
+
+    fn document(i: &Input) -> Document<Read> {
+        settlement::read(i.h, &i.witness)
+    }
+
+    /// The Rust tells no places: they follow from the state that it writes back, which begins behind the count byte.
+    fn rust(i: &Input) -> Rust<Read> {
+        match calls::read(i.h as u8, &i.witness) {
+            None => Rust::TurnedDown,
+            Some(read) => Rust::Value(Read {
+                n: read.n,
+                unlocks: read.unlocks,
+                shares: (1 + read.written.len()).saturating_sub(72),
+                first: 1 + read.written.len(),
+            }),
+        }
+    }
+
+    fn further(i: &Input) -> Result<(), &'static str> {
+        let rust = calls::read(i.h as u8, &i.witness).zip(calls::unlocks(i.h as u8, &i.witness));
+        let rust = rust.map(|(read, unlocks)| (read.written, unlocks));
+        if rust != settlement::written_back(i.h, &i.witness) {
+            return Err("the Rust writes other bytes back than document 01");
+        }
+        Ok(())
+    }
+
+    fn class(_: &Input, read: &Read) -> &'static str {
+        match (read.n, read.unlocks) {
+            (253.., _) => "n 253 to 255",
+            (0, 0) => "n 0, no unlocks",
+            (0, _) => "n 0, unlocks",
+            (_, 0) => "TLCs, no unlocks",
+            _ => "TLCs, unlocks",
+        }
+    }
+
+    fn show_input(i: &Input) -> String {
+        format!("{} {}", i.h, hex(&i.witness))
+    }
+
+    fn show_value(read: &Read) -> String {
+        format!("{} {} {} {}", read.n, read.unlocks, read.shares, read.first)
+    }
+}
