@@ -1,10 +1,14 @@
 //! Cuts the items that the oracle needs out of the reference's files, byte for byte, into OUT_DIR, and finds the
-//! port's library.
+//! port's library. Items are named by kind and name (scan.rs).
 //!
 //! FIBER_SRC names the reference: a checkout of nervosnetwork/fiber at 21c4dfbdbd, or a folder in which that
 //! checkout's file `a/b/c.rs` is called `src--a--b--c.rs.txt`. Nothing of the reference is kept in this package.
 //! SETTLEMENT_LIB names the folder that holds libsettlement_c.a.
 
+mod scan;
+
+use scan::{Item, Text};
+use std::collections::BTreeMap;
 use std::path::{Path, PathBuf};
 use std::{env, fs, process};
 
@@ -21,12 +25,12 @@ const EXPORTS: &[&str] = &[
 
 /// What is taken from a file.
 enum Take {
-    /// A whole item, with the comments and attributes right above it. Named by how its first line begins.
-    Item(&'static str),
-    /// One member of an impl or trait, wrapped in that header again.
-    Member(&'static str, &'static str),
+    /// A whole item, with the comments and attributes right above it.
+    Whole(&'static str),
+    /// Some members of an impl or trait, in its header again.
+    Members(&'static str, &'static [&'static str]),
 }
-use Take::{Item, Member};
+use Take::{Members, Whole};
 
 /// A file of OUT_DIR, made of slices.
 struct Part {
@@ -34,6 +38,7 @@ struct Part {
     from: &'static [(&'static str, &'static [Take])],
 }
 
+/// What answers in the comparison.
 const PARTS: &[Part] = &[
     Part {
         name: "fiber_types.rs",
@@ -41,41 +46,41 @@ const PARTS: &[Part] = &[
             (
                 "crates/fiber-types/src/primitives.rs",
                 &[
-                    Item("pub struct NodeId("),
-                    Item("pub struct Hash256("),
-                    Item("impl From<[u8; 32]> for Hash256 {"),
-                    Item("impl AsRef<[u8]> for Hash256 {"),
-                    Item("impl ::core::fmt::LowerHex for Hash256 {"),
-                    Item("impl ::core::fmt::Debug for Hash256 {"),
-                    Item("pub struct Pubkey("),
-                    Item("impl std::fmt::Debug for Pubkey {"),
-                    Item("const PUBKEY_SIZE: usize"),
-                    Member("impl NodeId {", "pub fn local() -> Self"),
-                    Member("impl Pubkey {", "pub fn serialize(&self)"),
+                    Whole("struct NodeId"),
+                    Whole("struct Hash256"),
+                    Whole("impl From<[u8;32]> for Hash256"),
+                    Whole("impl AsRef<[u8]> for Hash256"),
+                    Whole("impl LowerHex for Hash256"),
+                    Whole("impl Debug for Hash256"),
+                    Whole("struct Pubkey"),
+                    Whole("impl Debug for Pubkey"),
+                    Whole("const PUBKEY_SIZE"),
+                    Members("impl NodeId", &["fn local"]),
+                    Members("impl Pubkey", &["fn serialize"]),
                 ],
             ),
             (
                 "crates/fiber-types/src/channel.rs",
                 &[
-                    Item("pub enum TLCId {"),
-                    Item("impl TLCId {"),
-                    Item("pub struct ChannelFeatures("),
-                    Item("impl ChannelFeatures {"),
+                    Whole("enum TLCId"),
+                    Whole("impl TLCId"),
+                    Whole("struct ChannelFeatures"),
+                    Whole("impl ChannelFeatures"),
                 ],
             ),
             (
                 "crates/fiber-types/src/invoice.rs",
-                &[Item("pub enum HashAlgorithm {"), Item("impl HashAlgorithm {"), Item("pub fn sha256<")],
+                &[Whole("enum HashAlgorithm"), Whole("impl HashAlgorithm"), Whole("fn sha256")],
             ),
             (
                 "crates/fiber-types/src/watchtower.rs",
                 &[
-                    Item("pub struct RevocationData {"),
-                    Item("pub struct SettlementData {"),
-                    Item("pub struct SettlementTlc {"),
-                    Item("pub fn settlement_tlc_witness("),
-                    Item("pub fn settlement_data_witness("),
-                    Item("pub struct ChannelData {"),
+                    Whole("struct RevocationData"),
+                    Whole("struct SettlementData"),
+                    Whole("struct SettlementTlc"),
+                    Whole("fn settlement_tlc_witness"),
+                    Whole("fn settlement_data_witness"),
+                    Whole("struct ChannelData"),
                 ],
             ),
         ],
@@ -85,13 +90,13 @@ const PARTS: &[Part] = &[
         from: &[(
             "crates/fiber-lib/src/utils/arithmetic.rs",
             &[
-                Item("pub(crate) struct ArithmeticError {"),
-                Item("impl ArithmeticError {"),
-                Item("impl Display for ArithmeticError {"),
-                Item("impl Error for ArithmeticError {"),
-                Item("pub(crate) fn checked_add_u64("),
-                Item("pub(crate) fn checked_mul_u64("),
-                Item("pub(crate) fn checked_sub_usize("),
+                Whole("struct ArithmeticError"),
+                Whole("impl ArithmeticError"),
+                Whole("impl Display for ArithmeticError"),
+                Whole("impl Error for ArithmeticError"),
+                Whole("fn checked_add_u64"),
+                Whole("fn checked_mul_u64"),
+                Whole("fn checked_sub_usize"),
             ],
         )],
     },
@@ -99,16 +104,13 @@ const PARTS: &[Part] = &[
         name: "lib_parts.rs",
         from: &[
             (
-                "crates/fiber-lib/src/watchtower/store.rs",
+                STORE,
                 &[
-                    Member("pub trait WatchtowerStore {", "fn get_watch_preimage("),
-                    Item("pub fn channel_data_local_settlement_pubkey_hash("),
+                    Members("trait WatchtowerStore", &["fn get_watch_preimage"]),
+                    Whole("fn channel_data_local_settlement_pubkey_hash"),
                 ],
             ),
-            (
-                "crates/fiber-lib/src/fiber/onchain_tlc_reconcile.rs",
-                &[Item("pub struct TrackedSettlementTlc {"), Item("pub fn tracked_settlement_tlcs(")],
-            ),
+            (RECONCILE, &[Whole("struct TrackedSettlementTlc"), Whole("fn tracked_settlement_tlcs")]),
         ],
     },
     Part {
@@ -116,23 +118,51 @@ const PARTS: &[Part] = &[
         from: &[(
             ACTOR,
             &[
-                Item("struct SettlementWitness {"),
-                Item("struct WitnessReader<"),
-                Item("impl<'a> WitnessReader<'a> {"),
-                Item("struct Htlc {"),
-                Item("impl Htlc {"),
-                Item("struct Unlock {"),
-                Item("impl Unlock {"),
-                Item("impl SettlementWitness {"),
-                Item("fn mul("),
-                Item("fn verified_watch_preimage<"),
-                Item("fn first_settlement_witness("),
+                Whole("struct SettlementWitness"),
+                Whole("struct WitnessReader"),
+                Whole("impl WitnessReader"),
+                Whole("struct Htlc"),
+                Whole("impl Htlc"),
+                Whole("struct Unlock"),
+                Whole("impl Unlock"),
+                Whole("impl SettlementWitness"),
+                Whole("fn mul"),
+                Whole("fn verified_watch_preimage"),
+                Whole("fn first_settlement_witness"),
             ],
         )],
     },
 ];
 
+/// Who calls `build_settlement_tx`, and the scan of the chain before it: for `oracle partings` alone.
+const CALLER: Part = Part {
+    name: "caller.rs",
+    from: &[
+        (
+            STORE,
+            &[Members(
+                "trait WatchtowerStore",
+                &["fn insert_watch_preimage", "fn insert_onchain_tlc_settlement"],
+            )],
+        ),
+        (RECONCILE, &[Whole("struct OnChainTlcSettlement")]),
+        (
+            ACTOR,
+            &[
+                Whole("struct WatchedSettlementScan"),
+                Whole("fn scan_watched_settlement_txs"),
+                Whole("fn lock_matches_commitment_prefix"),
+                Whole("fn process_watched_settlement_tx_with_features"),
+                Whole("fn has_successor_commitment_output"),
+                Whole("fn reconcile_settlement_witness"),
+            ],
+        ),
+    ],
+};
+
 const ACTOR: &str = "crates/fiber-lib/src/watchtower/actor.rs";
+const STORE: &str = "crates/fiber-lib/src/watchtower/store.rs";
+const RECONCILE: &str = "crates/fiber-lib/src/fiber/onchain_tlc_reconcile.rs";
 
 /// Stands behind the head of `build_settlement_tx`: hands back what was chosen instead of a transaction.
 const HAND_OVER: &str = "
@@ -149,36 +179,61 @@ const HAND_OVER: &str = "
 }
 ";
 
+/// Stands behind the caller's statements: what it would hand to `build_settlement_tx`.
+const HAND_ON: &str = "
+    // ---- here the reference's text ends; what follows is the harness's ----
+    Some((cell_header_epoch, settlement_witness, tracked_tlcs.clone()))
+";
+
 fn main() {
     println!("cargo:rerun-if-changed=build.rs");
+    println!("cargo:rerun-if-changed=scan.rs");
     println!("cargo:rerun-if-env-changed=FIBER_SRC");
     println!("cargo:rerun-if-env-changed=SETTLEMENT_LIB");
     let root = folder("FIBER_SRC", "a checkout of nervosnetwork/fiber at 21c4dfbdbd");
     let out = PathBuf::from(env::var("OUT_DIR").expect("cargo sets OUT_DIR"));
+    let actor = Source::open(&root, ACTOR);
 
-    let mut slices = Slices::default();
+    let mut answering = Slices::default();
     for part in PARTS {
-        let mut text = String::new();
-        for (file, takes) in part.from {
-            let source = Source::open(&root, file);
-            for take in *takes {
-                text += &match take {
-                    Item(head) => slices.item(&source, head),
-                    Member(outer, head) => slices.member(&source, outer, head),
-                };
-            }
-        }
+        let mut text = answering.part(&root, part);
         if part.name == "actor.rs" {
-            text += &slices.settlement_head(&Source::open(&root, ACTOR));
+            text += &answering.settlement_head(&actor);
             text += HAND_OVER;
         }
         write(&out.join(part.name), &text);
     }
-    write(&out.join("due.rs"), &slices.due_condition(&Source::open(&root, ACTOR)));
-    write(&out.join("slices.tsv"), &slices.table);
-    write(&out.join("sliced.txt"), &slices.text);
+    write(&out.join("due.rs"), &answering.due_condition(&actor));
+
+    let mut caller = Slices::default();
+    let text = caller.part(&root, &CALLER);
+    write(&out.join(CALLER.name), &text);
+    write(
+        &out.join("caller_statements.rs"),
+        &format!("{{\n{}{HAND_ON}}}\n", caller.caller_statements(&actor)),
+    );
+
+    write(&out.join("slices.tsv"), &(answering.table.clone() + &caller.table));
+    write(&out.join("sliced.txt"), &answering.text);
+    write(&out.join("sliced_caller.txt"), &caller.text);
+    write(&out.join("tokens.tsv"), &answering.tokens);
+    say_lines(&[answering, caller]);
 
     link(&folder("SETTLEMENT_LIB", "the folder of libsettlement_c.a"));
+}
+
+/// One line for each file: which of its lines were taken. Cargo shows it at every build.
+fn say_lines(slices: &[Slices]) {
+    let mut files: BTreeMap<&str, Vec<(usize, usize)>> = BTreeMap::new();
+    for (file, first, last) in slices.iter().flat_map(|s| &s.lines) {
+        files.entry(file).or_default().push((*first, *last));
+    }
+    for (file, mut lines) in files {
+        lines.sort_unstable();
+        lines.dedup();
+        let lines: Vec<String> = lines.iter().map(|(first, last)| format!("{first}-{last}")).collect();
+        println!("cargo:warning=taken from {file}: lines {}", lines.join(", "));
+    }
 }
 
 /// Ends the build with one sentence.
@@ -249,9 +304,7 @@ fn symbols(archive: &[u8]) -> Option<Vec<&[u8]>> {
 struct Source {
     /// Its path in the checkout.
     file: &'static str,
-    text: String,
-    /// For each byte: is it code, and not part of a comment, a string or a character?
-    code: Vec<bool>,
+    code: Text,
 }
 
 impl Source {
@@ -260,65 +313,20 @@ impl Source {
         let flat = root.join(format!("src--{}.txt", file.replace('/', "--")));
         let path = if in_checkout.is_file() { in_checkout } else { flat };
         println!("cargo:rerun-if-changed={}", path.display());
-        match fs::read_to_string(&path) {
-            Ok(text) => Source { file, code: code_mask(text.as_bytes()), text },
+        let text = fs::read_to_string(&path).map_err(|e| e.to_string());
+        match text.and_then(Text::new) {
+            Ok(code) => Source { file, code },
             Err(e) => fail(&format!("FIBER_SRC has no readable {file} ({}: {e}).", path.display())),
         }
     }
 
-    fn line(&self, at: usize) -> usize {
-        self.text[..at].matches('\n').count() + 1
+    /// What was found, or the end of the build.
+    fn sure<T>(&self, found: Result<T, String>) -> T {
+        found.unwrap_or_else(|why| fail(&format!("{}: {why}.", self.file)))
     }
 
-    /// The only place in `from..to` where a line of code begins, behind `indent` blanks, with `head`.
-    fn find(&self, head: &str, indent: usize, from: usize, to: usize) -> usize {
-        let line = format!("\n{}{head}", " ".repeat(indent));
-        let found: Vec<usize> = self.text[from..to]
-            .match_indices(&line)
-            .map(|(at, _)| from + at + 1)
-            .filter(|at| self.code[at + indent])
-            .collect();
-        match found[..] {
-            [at] => at,
-            _ => fail(&format!("{}: the item `{head}` is there {} times, not once.", self.file, found.len())),
-        }
-    }
-
-    /// The end of the item or statement at `at`: behind its closing brace, or behind its `;` outside of brackets.
-    /// A statement's `;` right behind the closing brace belongs to it.
-    fn end(&self, at: usize, statement: bool) -> usize {
-        let bytes = self.text.as_bytes();
-        let mut depth = 0;
-        for i in (at..bytes.len()).filter(|i| self.code[*i]) {
-            match bytes[i] {
-                b'(' | b'[' | b'{' => depth += 1,
-                b')' | b']' => depth -= 1,
-                b'}' => {
-                    depth -= 1;
-                    if depth == 0 && !(statement && bytes.get(i + 1) == Some(&b';')) {
-                        return i + 1;
-                    }
-                }
-                b';' if depth == 0 => return i + 1,
-                _ => {}
-            }
-        }
-        fail(&format!("{}: the item at line {} has no end.", self.file, self.line(at)))
-    }
-
-    /// Where the comments and attributes right above `at` begin.
-    fn with_attributes(&self, mut at: usize) -> usize {
-        while at > 0 {
-            let above = self.text[..at - 1].rfind('\n').map_or(0, |end| end + 1);
-            let line = self.text[above..at].trim();
-            let comment = line.starts_with("//") && !line.starts_with("//!");
-            let attribute = line.starts_with("#[") && line.ends_with(']');
-            if !comment && !attribute {
-                break;
-            }
-            at = above;
-        }
-        at
+    fn find(&self, name: &str) -> Item {
+        self.sure(self.code.find(name))
     }
 }
 
@@ -327,141 +335,113 @@ impl Source {
 struct Slices {
     /// File, lines, item.
     table: String,
+    lines: Vec<(&'static str, usize, usize)>,
     /// The text, slice by slice.
     text: String,
+    /// File, item or member, number of the token, its first byte and the byte behind it in the file.
+    tokens: String,
 }
 
 impl Slices {
-    fn cut(&mut self, source: &Source, item: &str, from: usize, to: usize) -> String {
-        let (first, last) = (source.line(from), source.line(to - 1));
-        self.table += &format!("{}\t{first}-{last}\t{item}\n", source.file);
-        self.text += &source.text[from..to];
+    fn part(&mut self, root: &Path, part: &Part) -> String {
+        let mut text = String::new();
+        for (file, takes) in part.from {
+            let source = Source::open(root, file);
+            for take in *takes {
+                text += &match take {
+                    Whole(name) => self.whole(&source, name),
+                    Members(outer, names) => self.members(&source, outer, names),
+                };
+            }
+        }
+        text
+    }
+
+    fn cut(&mut self, source: &Source, name: &str, from: usize, to: usize) -> String {
+        let (first, last) = (source.code.line(from), source.code.line(to - 1));
+        self.table += &format!("{}\t{first}-{last}\t{name}\n", source.file);
+        self.lines.push((source.file, first, last));
+        let text = &source.code.text[from..to];
+        self.text += text;
         self.text += "\n";
-        source.text[from..to].to_string()
+        text.to_string()
     }
 
-    fn item(&mut self, source: &Source, head: &str) -> String {
-        let at = source.find(head, 0, 0, source.text.len());
-        self.cut(source, head, source.with_attributes(at), source.end(at, false)) + "\n\n"
+    /// Cuts an item up to the token `last`, with what stands right above it.
+    fn cut_item(&mut self, source: &Source, name: &str, item: &Item, last: usize) -> String {
+        let code = &source.code;
+        if item.name.starts_with("impl ") && item.open.is_some() {
+            for member in code.members(item) {
+                self.list(source, &format!("{name} / {}", member.name), member.first, member.last);
+            }
+        } else {
+            self.list(source, name, item.first, last);
+        }
+        self.cut(source, name, code.with_attributes(item.first), code.tokens[last].to)
     }
 
-    fn member(&mut self, source: &Source, outer: &str, head: &str) -> String {
-        let block = source.find(outer, 0, 0, source.text.len());
-        let at = source.find(head, 4, block, source.end(block, false));
-        let name = format!("{outer} .. {head}");
-        let text = self.cut(source, &name, source.with_attributes(at), source.end(at, false));
-        format!("{outer}\n{text}\n}}\n\n")
+    fn list(&mut self, source: &Source, name: &str, first: usize, last: usize) {
+        for (number, token) in source.code.tokens[first..=last].iter().enumerate() {
+            let (file, number) = (source.file, number + 1);
+            self.tokens += &format!("{file}\t{name}\t{number}\t{}\t{}\n", token.from, token.to);
+        }
     }
 
-    /// `build_settlement_tx` up to the statement that completes the new args, right behind `new_script_hash`.
+    fn whole(&mut self, source: &Source, name: &str) -> String {
+        let item = source.find(name);
+        self.cut_item(source, name, &item, item.last) + "\n\n"
+    }
+
+    fn members(&mut self, source: &Source, outer: &str, names: &[&str]) -> String {
+        let code = &source.code;
+        let block = source.find(outer);
+        let open = source.sure(block.open.ok_or(format!("the item `{outer}` has no members")));
+        let mut text = code.text[code.tokens[block.first].from..code.tokens[open].to].to_string();
+        for name in names {
+            let path = format!("{outer} / {name}");
+            let member = source.find(&path);
+            text += "\n";
+            text += &self.cut_item(source, &path, &member, member.last);
+        }
+        text + "\n}\n\n"
+    }
+
+    /// `build_settlement_tx` up to the statement that completes the new args: the first `if` behind the new hash.
     fn settlement_head(&mut self, source: &Source) -> String {
-        let at = source.find("fn build_settlement_tx<", 0, 0, source.text.len());
-        let end = source.end(at, false);
-        let hash = source.find("let new_script_hash = {", 4, at, end);
-        let hash_end = source.end(hash, true);
-        let features = source.find("if lock_script_args.len() > 57 {", 4, hash_end, end);
-        let features_end = source.end(features, false);
-        let next = source.find("let placeholder_witness_for_change", 4, hash_end, end);
-        if !source.text[features_end..next].trim().is_empty() {
+        let code = &source.code;
+        let name = "fn build_settlement_tx";
+        let item = source.find(name);
+        let (_, hash) = source.sure(code.binding(&item, "new_script_hash", 0, 1));
+        let features = source.sure(code.ahead(hash, "if"));
+        let last = code.close(source.sure(code.ahead(features, "{")));
+        let (behind, _) = source.sure(code.binding(&item, "placeholder_witness_for_change", 0, 1));
+        if behind != last + 1 {
             fail(&format!("{}: there are statements between the new args and the cut.", source.file));
         }
-        self.cut(source, "fn build_settlement_tx< (head)", source.with_attributes(at), features_end)
+        self.cut_item(source, name, &item, last)
     }
 
-    /// The due test: the condition behind `mul(delay_epoch, 1, 3)` in `build_settlement_tx`, an expression over
-    /// `cell_header_epoch`, `delay` and `current_epoch`.
+    /// The due test: what the `if` right behind the second `let delay` of `build_settlement_tx` asks, an expression
+    /// over `cell_header_epoch`, `delay` and `current_epoch`.
     fn due_condition(&mut self, source: &Source) -> String {
-        let at = source.find("fn build_settlement_tx<", 0, 0, source.text.len());
-        let end = source.end(at, false);
-        let third = source.find("let delay = mul(delay_epoch, 1, 3)", 24, at, end);
-        let test = source.find("if cell_header_epoch", 24, third, end);
-        let from = test + 24 + "if ".len();
-        let block = (from..end).find(|i| source.code[*i] && source.text.as_bytes()[*i] == b'{');
-        let to = from + source.text[from..block.unwrap_or(end)].trim_end().len();
-        self.cut(source, "fn build_settlement_tx< .. condition of the due test", from, to)
-    }
-}
-
-/// For each byte: is it code, and not part of a comment, a string or a character?
-fn code_mask(s: &[u8]) -> Vec<bool> {
-    let mut mask = vec![true; s.len()];
-    let mut at = 0;
-    while at < s.len() {
-        let end = skip_quoted(s, at).min(s.len());
-        if end == at {
-            at += 1;
-        } else {
-            mask[at..end].fill(false);
-            at = end;
+        let code = &source.code;
+        let item = source.find("fn build_settlement_tx");
+        let (_, third) = source.sure(code.binding(&item, "delay", 1, 2));
+        if code.token(third + 1) != "if" {
+            fail(&format!("{}: no `if` stands behind the second `let delay`.", source.file));
         }
+        let open = source.sure(code.ahead(third, "{"));
+        let (from, to) = (code.tokens[third + 2].from, code.tokens[open - 1].to);
+        self.cut(source, "fn build_settlement_tx, condition of the due test", from, to)
     }
-    mask
-}
 
-/// The end of the comment, string or character that begins at `at`; `at` itself where none begins.
-fn skip_quoted(s: &[u8], at: usize) -> usize {
-    let rest = &s[at..];
-    if rest.starts_with(b"//") {
-        return at + rest.iter().position(|b| *b == b'\n').unwrap_or(rest.len());
+    /// The statements of `try_settle_commitment_tx` on one live cell, up to the witness that it hands on.
+    fn caller_statements(&mut self, source: &Source) -> String {
+        let code = &source.code;
+        let item = source.find("fn try_settle_commitment_tx");
+        let (first, _) = source.sure(code.binding(&item, "commitment_tx_hash", 0, 1));
+        let (_, last) = source.sure(code.binding(&item, "settlement_witness", 0, 1));
+        let (from, to) = (code.tokens[first].from, code.tokens[last].to);
+        self.cut(source, "fn try_settle_commitment_tx, statements on a live cell", from, to)
     }
-    if rest.starts_with(b"/*") {
-        return skip_block_comment(s, at);
-    }
-    let behind_name = at > 0 && (s[at - 1].is_ascii_alphanumeric() || s[at - 1] == b'_') && s[at - 1] != b'b';
-    if rest[0] == b'r' && !behind_name {
-        let hashes = rest[1..].iter().take_while(|b| **b == b'#').count();
-        if rest.get(1 + hashes) == Some(&b'"') {
-            let mut close = vec![b'"'];
-            close.resize(1 + hashes, b'#');
-            let body = 2 + hashes;
-            let length = rest[body..].windows(close.len()).position(|w| w == close);
-            return at + length.map_or(rest.len(), |l| body + l + close.len());
-        }
-    }
-    match rest[0] {
-        b'"' => skip_to(s, at + 1, b'"'),
-        b'\'' if rest.get(1) == Some(&b'\\') => skip_to(s, at + 1, b'\''),
-        b'\'' => {
-            // A character of one to four bytes and a quote; anything else is a lifetime.
-            let width = match rest.get(1) {
-                Some(0xF0..) => 4,
-                Some(0xE0..) => 3,
-                Some(0xC0..) => 2,
-                _ => 1,
-            };
-            if rest.get(1 + width) == Some(&b'\'') {
-                at + width + 2
-            } else {
-                at
-            }
-        }
-        _ => at,
-    }
-}
-
-/// Behind the next `quote` that no backslash escapes.
-fn skip_to(s: &[u8], mut at: usize, quote: u8) -> usize {
-    while at < s.len() && s[at] != quote {
-        at += if s[at] == b'\\' { 2 } else { 1 };
-    }
-    at + 1
-}
-
-fn skip_block_comment(s: &[u8], mut at: usize) -> usize {
-    let mut depth = 0;
-    while at < s.len() {
-        if s[at..].starts_with(b"/*") {
-            depth += 1;
-            at += 2;
-        } else if s[at..].starts_with(b"*/") {
-            depth -= 1;
-            at += 2;
-            if depth == 0 {
-                break;
-            }
-        } else {
-            at += 1;
-        }
-    }
-    at
 }

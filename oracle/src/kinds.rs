@@ -48,8 +48,13 @@ pub trait Kind {
     }
 
     fn document(input: &Self::Input) -> Document<Self::Value>;
-    /// Asked only where document 01 says that the two are equal.
+    /// Asked only where document 01 says that the two are equal, and not where `not_shown` holds.
     fn rust(input: &Self::Input) -> Rust<Self::Value>;
+    /// Does the text hand ckb-types something here that no document at hand speaks about? Then the Rust is not
+    /// asked, though document 01 has the case inside the equality.
+    fn not_shown(_input: &Self::Input) -> bool {
+        false
+    }
     /// Called only where there is an export.
     fn port(_input: &Self::Input, _random: &mut Random) -> Called<Self::Value> {
         unreachable!("no export yet")

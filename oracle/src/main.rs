@@ -19,6 +19,7 @@ oracle: the text of nervosnetwork/fiber at 21c4dfbdbd, compared with the port ov
 
   oracle selftest                      checks the oracle itself
   oracle slices                        lists which lines of which file of the reference it holds
+  oracle tokens                        lists the places of their tokens, for the script `mutants`
   oracle compare [KIND..] [options]    compares; without KIND every kind
       --rounds N      how many cases of each kind (1000000)
       --seconds S     ends each kind after S seconds
@@ -49,6 +50,10 @@ fn main() {
     let status = match words[..] {
         ["selftest"] => selftest(),
         ["slices"] => slices(),
+        ["tokens"] => {
+            print!("{}", reference::TOKENS);
+            0
+        }
         ["compare", ref rest @ ..] => compare(rest),
         ["one", kind, seed, case] => one(kind, seed, case, true),
         ["one", kind, seed, case, "--no-port"] => one(kind, seed, case, false),
@@ -101,6 +106,7 @@ fn selftest() -> i32 {
 fn slices() -> i32 {
     print!("{}", reference::SLICES);
     println!("SHA-256 of the sliced text: {}", selftest::sliced_digest());
+    println!("SHA-256 of that of who calls it: {}", selftest::caller_digest());
     0
 }
 

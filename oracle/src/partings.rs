@@ -1,7 +1,8 @@
 //! Where document 01 and the Rust part, shown by running the Rust on the smallest input.
 
 use crate::document::{self, settlement, Document, Epoch};
-use crate::reference::calls::{self, Case, Choice, Rust, Tlc, Update};
+use crate::reference::calls::{self, Case, Choice, OnLiveCell, Rust, Tlc, Update};
+use crate::shim::NotModelled;
 use std::fmt::Display;
 
 fn epoch(number: u64, index: u64, length: u64) -> Epoch {
@@ -25,6 +26,22 @@ fn done<V: Display>(answer: Rust<V>) -> String {
         Rust::TurnedDown => "turned down, without a number".to_string(),
         Rust::Wait(number) => format!("waits ({number})"),
         Rust::Panicked(text) => format!("panics: {text}"),
+        Rust::NotModelled(not_modelled) => not_shown(&not_modelled),
+    }
+}
+
+fn not_shown(n: &NotModelled) -> String {
+    format!("not shown: {} is not in the text (it is handed {})", n.what, n.handed)
+}
+
+fn chosen(choice: &Choice) -> String {
+    match choice {
+        Choice::Chosen(c) => format!("chosen, unlock byte {:#04x}", c.unlock[0]),
+        Choice::Wait(number) => format!("waits ({number})"),
+        Choice::Unread => "the reader turns it down, without a place".to_string(),
+        Choice::Error(text) => format!("turned down: {text}"),
+        Choice::Panic => "panics".to_string(),
+        Choice::NotModelled(not_modelled) => not_shown(not_modelled),
     }
 }
 
@@ -58,30 +75,22 @@ fn due(place: &'static str, h: Epoch, d: Epoch, c: Epoch, note: &'static str) ->
 
 fn all() -> Vec<Parting> {
     let (zero, one) = (epoch(0, 0, 1), epoch(1, 0, 1));
-    let packed = "the answer's fields are packed into one number, where the whole part runs into the index; \
-                  with debug assertions the constructor refuses it (shim, from memory of ckb-types)";
+    let constructor = "outside the equality: the text makes an epoch of fields that pass their bits";
     let only_number = "no parting in what is turned down: the Rust only gives no number";
-    let shim = "rests on the shim of ckb-types' epoch, from memory";
+    let sum = "outside the equality: the text asks for number + index / length";
     let mut partings = vec![
-        scaled("mul, whole part above 24 bits", one, 16_777_216, 1, packed),
-        scaled("mul, whole part above 24 bits, by 2", epoch(8_388_608, 0, 1), 2, 1, packed),
-        scaled("mul, whole part above 24 bits, by 2", epoch(16_777_215, 0, 1), 2, 1, packed),
+        scaled("mul, whole part above 24 bits", one, 16_777_216, 1, constructor),
+        scaled("mul, whole part above 24 bits, by 2", epoch(8_388_608, 0, 1), 2, 1, constructor),
+        scaled("mul, whole part above 24 bits, by 2", epoch(16_777_215, 0, 1), 2, 1, constructor),
         scaled("mul, D = 0 by the length", epoch(0, 0, 0), 0, 1, only_number),
         scaled("mul, D = 0 by the denominator", epoch(0, 0, 1), 0, 0, only_number),
         scaled("mul, N above 64 bits", epoch(2, 0, 1), 1 << 63, 1, only_number),
         scaled("mul, D above 64 bits", epoch(0, 0, 2), 0, 1 << 63, only_number),
-        due("due test, header 0/0/0", epoch(0, 0, 0), zero, zero, shim),
-        due("due test, header length 0", epoch(1, 0, 0), zero, one, shim),
-        due("due test, delay length 0", zero, epoch(0, 1, 0), zero, shim),
-        due("due test, current length 0", zero, zero, epoch(1, 0, 0), shim),
+        due("due test, header 0/0/0", epoch(0, 0, 0), zero, zero, sum),
+        due("due test, header length 0", epoch(1, 0, 0), zero, one, sum),
+        due("due test, delay length 0", zero, epoch(0, 1, 0), zero, sum),
+        due("due test, current length 0", zero, zero, epoch(1, 0, 0), sum),
     ];
-    partings.push(Parting {
-        place: "delay in the args with length 0",
-        input: "epoch value 1: number 1, index 0, length 0".to_string(),
-        document: "7 at 0 in a first settlement: epoch length 0".to_string(),
-        rust: format!("read as {}", done(calls::epoch_of_value(1))),
-        note: shim,
-    });
     let since = 0x5f00_0000_0000_0005;
     partings.push(Parting {
         place: "since value, bits 60-56",
@@ -99,6 +108,8 @@ fn all() -> Vec<Parting> {
     });
     partings.extend(updates());
     partings.extend(choices());
+    partings.extend(delays());
+    partings.extend(unreadable());
     partings
 }
 
@@ -123,16 +134,13 @@ fn updates() -> Vec<Parting> {
     let twice = |n: u8, unlocks: &[u8]| Parting {
         place: "update, a place settled twice",
         input: format!("h = 20, n = {n}, unlocks {unlocks:?}"),
-        document: match settlement::update(20, &witness(n, unlocks), usize::MAX) {
-            Document::Value(state) => format!("{} TLCs", state[0]),
-            Document::Row(row, place) => format!("{} at {place}: {}", row.number, row.cause),
-        },
+        document: said_row(settlement::update(20, &witness(n, unlocks), usize::MAX)),
         rust: match calls::update(20, &witness(n, unlocks)) {
             Update::State(state) => {
                 format!("says {} TLCs and writes {} records", state[0], (state.len() - 73) / 85)
             }
-            Update::Refused => "turned down, without a number".to_string(),
-            other => format!("{other:?}"),
+            Update::Refused | Update::Unread => "turned down, without a number".to_string(),
+            Update::Panic => "panics".to_string(),
         },
         note: "each repeat is subtracted from the count, one record is removed",
     };
@@ -174,33 +182,112 @@ fn first_settlement(args: usize, tlcs: usize) -> Case {
 }
 
 fn choices() -> Vec<Parting> {
-    let chosen = |case: &Case| match calls::choice(case) {
-        Choice::Chosen(c) => format!("chosen, unlock byte {:#04x}", c.unlock[0]),
-        Choice::Wait(number) => format!("waits ({number})"),
-        other => format!("{other:?}"),
-    };
     let short_args = |args: usize, tlcs: usize, what: &str| Parting {
         place: "choice, lock args below 36 bytes",
         input: format!("first settlement, args of {args} bytes, {what}"),
         document: "10 at 0: lock args below 36 bytes".to_string(),
-        rust: chosen(&first_settlement(args, tlcs)),
+        rust: chosen(&calls::choice(&first_settlement(args, tlcs))),
         note: "the args are cut at 28 at once, but at 36 only once something is chosen",
     };
     let mut expired = first_settlement(57, 255);
     expired.tlcs[254].expiry = 0;
     expired.tracked = calls::tracked(&expired);
+    let state = calls::first_records(&expired).expect("255 TLCs");
+    let later = Case { witness: Some([vec![0], state].concat()), ..expired.clone() };
+    let above_254 = |case: &Case, input: &str, what: &str| Parting {
+        place: "choice, 255 TLCs",
+        input: format!("{input}, 255 offered TLCs, of which place 254 alone is expired"),
+        document: format!("12 at 0: above 254 {what}"),
+        rust: chosen(&calls::choice(case)),
+        note: "0xfe is the unlock of the remote share",
+    };
     vec![
         short_args(27, 0, "no TLCs"),
         short_args(28, 0, "no TLCs, our share due"),
         short_args(28, 1, "one TLC that is not expired"),
-        Parting {
-            place: "choice, 255 TLCs",
-            input: "first settlement, 255 offered TLCs, of which place 254 alone is expired".to_string(),
-            document: "12 at 0: above 254 settlement TLCs".to_string(),
-            rust: chosen(&expired),
-            note: "0xfe is the unlock of the remote share",
-        },
+        above_254(&expired, "first settlement", "settlement TLCs"),
+        above_254(&later, "later settlement", "standing TLCs"),
     ]
+}
+
+/// A delay of length 0 in the args. Our share is due, or would be next.
+fn delays() -> Vec<Parting> {
+    let mut first = first_settlement(57, 0);
+    first.args[20..27].copy_from_slice(&[1, 0, 0, 0, 0, 0, 0]);
+    let later = Case { witness: Some(ours_next(&first)), ..first.clone() };
+    let parting = |place, case: &Case, document: &str| Parting {
+        place,
+        input: "args of 57 bytes, epoch value 1: number 1, index 0, length 0; no TLCs".to_string(),
+        document: document.to_string(),
+        rust: chosen(&calls::choice(case)),
+        note: "the text makes an epoch of the value in both; a later settlement does not look at it again",
+    };
+    vec![
+        parting("delay of length 0, first settlement", &first, "7 at 0: epoch length 0"),
+        parting("delay of length 0, later settlement", &later, "chosen, unlock byte 0xff: no row"),
+    ]
+}
+
+/// A witness of no TLCs and no unlocks in which the other side's key hash is all zeros: our share is next.
+fn ours_next(case: &Case) -> Vec<u8> {
+    let state = calls::first_records(case).expect("no TLCs");
+    [&[0, 0][..], &[0; 36], &state[37..]].concat()
+}
+
+/// A later witness that cannot be read, from the chain to the choice.
+fn unreadable() -> Vec<Parting> {
+    let first = first_settlement(57, 0);
+    let whole = ours_next(&first);
+    let cut = whole[..73].to_vec();
+    let case = |witness: &[u8]| Case { witness: Some(witness.to_vec()), ..first.clone() };
+    let live = |place, input: &str, read: &[u8], scanned: &[u8], document: String, note| Parting {
+        place,
+        input: format!("h = 20, n = 0, our share due, {input}"),
+        document,
+        rust: match calls::on_live_cell(&case(read), scanned) {
+            OnLiveCell::PassedOver => "the cell is passed over, nothing is built".to_string(),
+            OnLiveCell::Chosen { as_first, choice } => {
+                let taken = if as_first { "taken for a first settlement" } else { "a later settlement" };
+                format!("{taken}: {}", chosen(&choice))
+            }
+        },
+        note,
+    };
+    let refused = || said_row(settlement::read(20, &cut));
+    vec![
+        live(
+            "caller, later witness whole",
+            "74 bytes",
+            &whole,
+            &whole,
+            "a later settlement: our share".to_string(),
+            "no parting: it shows that the slices of the caller run",
+        ),
+        live(
+            "caller, later witness that cannot be read",
+            "73 bytes",
+            &cut,
+            &cut,
+            refused(),
+            "the scan before it reads the same witness and leaves the cell out of the tracked ones",
+        ),
+        live(
+            "the same, but the scan was given a whole witness",
+            "74 bytes at the scan, 73 when asked again",
+            &cut,
+            &whole,
+            refused(),
+            "the caller hands None on; a transaction's hash is not over its witnesses, so a node could do this",
+        ),
+    ]
+}
+
+/// Where a row is expected.
+fn said_row<V>(answer: Document<V>) -> String {
+    match answer {
+        Document::Value(_) => "no row".to_string(),
+        Document::Row(row, place) => format!("{} at {place}: {}", row.number, row.cause),
+    }
 }
 
 fn milliseconds(expiry: Option<u64>) -> String {
@@ -216,6 +303,6 @@ pub fn print() {
         println!("\n{}\n  input:       {}\n  document 01: {}", p.place, p.input, p.document);
         println!("  the Rust:    {}\n  note:        {}", p.rust, p.note);
     }
-    println!("\nFields beyond 24 or 16 bits and keys of other lengths than 33 cannot be handed to the Rust:");
-    println!("its epochs are packed, its keys typed. Document 01 answers 14 at 0.");
+    println!("\nFields beyond 24 or 16 bits and keys of other lengths than 33 cannot be handed to the Rust: RFC 0017");
+    println!("gives its epochs no more bits, its keys are typed. Document 01 answers 14 at 0.");
 }

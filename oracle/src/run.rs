@@ -31,6 +31,8 @@ pub struct Tally {
     values: BTreeMap<&'static str, u64>,
     /// Rows: what they are in the Rust, number, cause.
     rows: BTreeMap<(InRust, u64, &'static str), u64>,
+    /// Inside the equality, but the Rust was not asked: what it does there is not in its text.
+    not_shown: u64,
     pub failures: u64,
     time: Duration,
 }
@@ -38,6 +40,10 @@ pub struct Tally {
 impl Tally {
     fn count<K: Kind>(&mut self, input: &K::Input, document: &Document<K::Value>) {
         self.rounds += 1;
+        if document.inside() && K::not_shown(input) {
+            self.not_shown += 1;
+            return;
+        }
         match document {
             Document::Value(value) => *self.values.entry(K::class(input, value)).or_default() += 1,
             Document::Row(row, _) => *self.rows.entry((row.rust, row.number, row.cause)).or_default() += 1,
@@ -81,6 +87,9 @@ impl fmt::Display for Tally {
         if alone > 0 {
             writeln!(f, "  compared with document 01 alone: {alone} ({alone_text})")?;
         }
+        if self.not_shown > 0 {
+            writeln!(f, "  the Rust not asked, ckb-types' epoch is not in the text: {}", self.not_shown)?;
+        }
         Ok(())
     }
 }
@@ -100,7 +109,7 @@ fn input<K: Kind>(edges: &[K::Input], seed: u64, case: u64) -> K::Input {
 /// The answers of the three sides to one input.
 struct Answers<V> {
     document: Document<V>,
-    /// None where the case is outside the equality.
+    /// None where the case is outside the equality, or not shown.
     rust: Option<Rust<V>>,
     /// None where the port was not called.
     port: Option<Called<V>>,
@@ -110,13 +119,14 @@ struct Answers<V> {
 
 fn answers<K: Kind>(input: &K::Input, seed: u64, case: u64, port: bool) -> Answers<K::Value> {
     let document = K::document(input);
+    let asked = document.inside() && !K::not_shown(input);
     Answers {
-        rust: document.inside().then(|| calls::caught(|| K::rust(input))),
+        rust: asked.then(|| calls::caught(|| K::rust(input))),
         port: match K::EXPORT {
             Some((export, _)) if port => Some(K::port(input, &mut Random::of(seed, export, case))),
             _ => None,
         },
-        further: match document.inside() {
+        further: match asked {
             true => calls::caught_or(Err("the Rust panics"), || K::further(input)),
             false => Ok(()),
         },
@@ -137,7 +147,9 @@ impl<V: PartialEq> Answers<V> {
             }
             _ => false,
         };
-        if !rust_as_document {
+        if let Some(Rust::NotModelled(_)) = &self.rust {
+            faults.push("the Rust's text hands a stand-in what no document describes");
+        } else if !rust_as_document {
             faults.push("the Rust parts from document 01");
         }
         faults.extend(self.further.err());
@@ -159,7 +171,7 @@ impl<V: PartialEq> Answers<V> {
             faults.push("the port parts from document 01");
         }
         let port_as_rust = match (port, &self.rust) {
-            (_, None) => true,
+            (_, None | Some(Rust::NotModelled(_))) => true,
             (Reply::Value(a), Some(Rust::Value(b))) => a == b,
             (Reply::Refused { .. }, Some(Rust::TurnedDown)) => true,
             (Reply::Refused { number, .. }, Some(Rust::Wait(wait))) => number == wait,
@@ -177,11 +189,12 @@ impl<V: PartialEq> Answers<V> {
             Document::Row(row, place) => format!("refused {} at {place} ({})", row.number, row.cause),
         };
         let rust = match &self.rust {
-            None => "not asked: outside the equality".to_string(),
+            None => "not asked: outside the equality, or not shown by its text".to_string(),
             Some(Rust::Value(value)) => K::show_value(value),
             Some(Rust::TurnedDown) => "turned down".to_string(),
             Some(Rust::Wait(number)) => format!("waits ({number})"),
             Some(Rust::Panicked(text)) => format!("panic: {text}"),
+            Some(Rust::NotModelled(n)) => format!("not shown: {} was handed {}", n.what, n.handed),
         };
         let port = match &self.port {
             None => "not called".to_string(),
@@ -217,9 +230,11 @@ pub fn compare<K: Kind>(options: &Options) -> Tally {
         rounds: 0,
         values: BTreeMap::new(),
         rows: BTreeMap::new(),
+        not_shown: 0,
         failures: 0,
         time: Duration::ZERO,
     };
+    let (mut parted, mut not_modelled) = (0, 0);
     let edges = K::edges();
     for case in options.from..options.from.saturating_add(options.rounds) {
         let input = input::<K>(&edges, options.seed, case);
@@ -228,10 +243,18 @@ pub fn compare<K: Kind>(options: &Options) -> Tally {
         let faults = answers.faults();
         if !faults.is_empty() {
             tally.failures += 1;
-            let flag = if options.port { "" } else { " --no-port" };
-            println!("FAILED: oracle one {} {} {case}{flag}", K::NAME, options.seed);
-            println!("{}\n  because {}", answers.show::<K>(&input), faults.join(", "));
-            if tally.failures == FAILURES_SHOWN {
+            // An answer that is not modelled tells nothing about values: it is shown once, and others are looked for.
+            let (shown, limit) = match answers.rust {
+                Some(Rust::NotModelled(_)) => (&mut not_modelled, 1),
+                _ => (&mut parted, FAILURES_SHOWN),
+            };
+            *shown += 1;
+            if *shown <= limit {
+                let flag = if options.port { "" } else { " --no-port" };
+                println!("FAILED: oracle one {} {} {case}{flag}", K::NAME, options.seed);
+                println!("{}\n  because {}", answers.show::<K>(&input), faults.join(", "));
+            }
+            if parted == FAILURES_SHOWN {
                 println!("{}: given up after {FAILURES_SHOWN} failing cases", K::NAME);
                 break;
             }
@@ -265,13 +288,13 @@ pub fn dump<K: Kind>(seed: u64) -> Vec<String> {
     K::edges()
         .into_iter()
         .chain(random)
-        .filter(|input| K::document(input).inside())
+        .filter(|input| K::document(input).inside() && !K::not_shown(input))
         .filter_map(|input| {
-            let answer = match K::rust(&input) {
+            let answer = match calls::caught(|| K::rust(&input)) {
                 Rust::Value(value) => K::show_value(&value),
                 Rust::TurnedDown => "none".to_string(),
                 Rust::Wait(number) => format!("wait {number}"),
-                Rust::Panicked(_) => return None,
+                Rust::Panicked(_) | Rust::NotModelled(_) => return None,
             };
             Some(format!("{} {} = {answer}", K::NAME, K::show_input(&input)))
         })

@@ -13,8 +13,15 @@ use num_bigint::BigUint;
 /// SHA-256 of the sliced text at commit 21c4dfbdbd.
 pub const SLICED_DIGEST: &str = "ea9fc73cd66b76129e6bf9cab186d3ccafa2d9c484c2432740cde451b842f293";
 
+/// The same of the text of who calls it.
+const CALLER_DIGEST: &str = "f7cfb5772b8a5ea56dc2ba58f94ad157f02aff7b4bde9cebc9e1e8b4c238241f";
+
 pub fn sliced_digest() -> String {
     hex::encode(document::sha256(crate::reference::SLICED.as_bytes()))
+}
+
+pub fn caller_digest() -> String {
+    hex::encode(document::sha256(crate::reference::SLICED_CALLER.as_bytes()))
 }
 
 pub fn run() {
@@ -22,6 +29,7 @@ pub fn run() {
     vectors();
     second_implementations();
     marked_rows();
+    not_modelled();
     document_in_big_numbers();
     generator();
     lent_buffers();
@@ -34,6 +42,7 @@ pub fn run() {
 
 fn slices() {
     assert_eq!(sliced_digest(), SLICED_DIGEST, "the sliced text is not that of commit 21c4dfbdbd");
+    assert_eq!(caller_digest(), CALLER_DIGEST, "the caller's sliced text is not that of commit 21c4dfbdbd");
     println!("slices: {} items, the text of commit 21c4dfbdbd", crate::reference::SLICES.lines().count());
 }
 
@@ -112,6 +121,21 @@ fn marked_rows() {
     assert_eq!(settlement::read(20, &[0; 74]), Document::Value(read));
     assert_eq!(settlement::read(20, &[0; 73]), Document::Row(settlement::SHARES_CUT, 2));
     println!("document 01's nine marked rows hold in the sliced text");
+}
+
+/// Where the text hands the stand-in for ckb-types' epoch what no document speaks about, the answer says so, and is
+/// none of the Rust's: a field beyond its bits, a length of 0.
+fn not_modelled() {
+    let one = epoch(1, 0, 1);
+    assert!(matches!(calls::scale(one, 16_777_216, 1), Rust::NotModelled(_)));
+    for place in 0..3 {
+        let mut all = [one; 3];
+        all[place].length = 0;
+        assert!(matches!(calls::due(all[0], all[1], all[2]), Rust::NotModelled(_)));
+    }
+    // The fields alone are RFC 0017's: `mul` reads a length of 0 and turns it down by itself.
+    assert_eq!(calls::scale(epoch(1, 0, 0), 1, 3), Rust::TurnedDown);
+    println!("what ckb-types does with a length of 0 or a field beyond its bits is not modelled");
 }
 
 /// src/document.rs computes in 128 bits: the same in numbers without a bound.

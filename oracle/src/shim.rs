@@ -1,12 +1,29 @@
-//! Hand-written stand-ins for what the reference's text takes from crates and files that are not at hand.
-//! Each says on what it rests. "Document 01" is the port's scope document.
+//! Hand-written stand-ins for what the reference's text takes from crates and files that are not at hand. Each says
+//! on which public document it rests; "nothing" where what it does changes no answer. "Document 01" is the port's
+//! scope document.
+//!
+//! Where the text hands a stand-in something that no document at hand speaks about, it imitates nothing: it ends the
+//! call by `not_modelled`, and that is the answer.
 
 use crate::reference::fiber_types::{
-    settlement_data_witness, settlement_tlc_witness, ChannelFeatures, Pubkey, SettlementData, SettlementTlc,
+    settlement_data_witness, settlement_tlc_witness, ChannelFeatures, Hash256, Pubkey, SettlementData,
+    SettlementTlc,
 };
 use std::cell::Cell as Shared;
 
-// ---- Logging. Rests on nothing: the text is type-checked and never written. ----
+/// What a call ends with, by unwinding, where the answer would be a guess. reference/calls.rs catches it.
+#[derive(Clone, Debug, PartialEq, Eq)]
+pub struct NotModelled {
+    /// What is not in the text.
+    pub what: &'static str,
+    pub handed: String,
+}
+
+fn not_modelled(what: &'static str, handed: String) -> ! {
+    std::panic::resume_unwind(Box::new(NotModelled { what, handed }))
+}
+
+// ---- Logging, anyhow, hex. Rest on nothing: the text is type-checked and read by people alone. ----
 
 macro_rules! silent {
     ($($text:tt)*) => {{
@@ -16,15 +33,18 @@ macro_rules! silent {
     }};
 }
 pub(crate) use silent as debug;
+pub(crate) use silent as error;
 
-/// As above, and leaves a mark by which wait 20 is told from 21 and 22.
+/// As above. A warning that names one thing alone leaves a mark, by which wait 20 is told from 21 and 22: in
+/// `build_settlement_tx` those about the tracked list name the channel, and all others name more.
 macro_rules! marked {
-    ($text:literal $($rest:tt)*) => {{
-        if false {
-            let _ = format!($text $($rest)*);
-        }
-        $crate::shim::mark($text)
+    ($text:literal, $one:expr $(,)?) => {{
+        $crate::shim::debug!($text, $one);
+        $crate::shim::mark_list_differs()
     }};
+    ($($text:tt)*) => {
+        $crate::shim::debug!($($text)*)
+    };
 }
 pub(crate) use marked as warn;
 
@@ -49,10 +69,8 @@ thread_local! {
     pub static MARKS: Shared<Marks> = const { Shared::new(Marks { list_differs: false, sinces: 0 }) };
 }
 
-pub fn mark(text: &'static str) {
-    if text.contains("does not match the verified TLC identity mapping") {
-        MARKS.with(|m| m.set(Marks { list_differs: true, ..m.get() }));
-    }
+pub fn mark_list_differs() {
+    MARKS.with(|m| m.set(Marks { list_differs: true, ..m.get() }));
 }
 
 pub mod hex {
@@ -61,8 +79,9 @@ pub mod hex {
     }
 }
 
-// ---- ckb_hash, ckb_sdk::util. Rests on document 01, module 1 and CKB RFC 0022: BLAKE2b-256 (RFC 7693) without a
-// key, personalisation `ckb-default-hash`; blake160 is its first 20 bytes. ----
+// ---- ckb_hash, ckb_sdk::util. Rest on document 01, module 1 and CKB RFC 0022: BLAKE2b-256 (RFC 7693) without a
+// key, personalisation `ckb-default-hash`; blake160 is its first 20 bytes. SHA-256 (FIPS 180-4) is the sha2 crate's,
+// which the text names itself. ----
 
 pub mod ckb_hash {
     pub fn blake2b_256<T: AsRef<[u8]>>(s: T) -> [u8; 32] {
@@ -78,7 +97,8 @@ pub fn blake160(message: &[u8]) -> H160 {
     H160(ckb_hash::blake2b_256(message)[..20].try_into().expect("20 bytes"))
 }
 
-// ---- ckb_sdk::Since. Rests on CKB RFC 0017 and document 01, module 2: bits 60-56 aren't looked at. ----
+// ---- ckb_sdk::Since. Rests on CKB RFC 0017 (relative flag, metric flag, value) and document 01, module 2 (bits
+// 60-56 aren't looked at, a metric of 11 is none). ----
 
 #[derive(Clone, Copy, Debug, PartialEq, Eq)]
 pub enum SinceType {
@@ -112,55 +132,58 @@ impl Since {
     }
 }
 
-// ---- ckb_types::core::EpochNumberWithFraction. The layout rests on CKB RFC 0017 and document 01, module 2; the
-// rational on document 01, module 4 (exact as fractions). What happens at a length of 0 and the debug assertions
-// are from memory of ckb-types; document 01 puts both outside the equality. ----
+// ---- ckb_types::core::EpochNumberWithFraction. The three fields rest on CKB RFC 0017 and document 01, module 2; the
+// sum rests on document 01, module 4: number + index / length, exact as fractions, indices above lengths included.
+// A length of 0 and a field beyond its bits are not modelled. ----
 
 #[derive(Clone, Copy, Debug, PartialEq, Eq)]
-pub struct EpochNumberWithFraction(u64);
+pub struct EpochNumberWithFraction {
+    number: u64,
+    index: u64,
+    length: u64,
+}
 
-/// Stands for a fraction of 256-bit numbers. The sums formed here stay below 2^128.
+pub const EPOCH: &str = "ckb-types' epoch";
+
+/// Exact. The sums formed here stay below 2^128.
 pub type Rational = num_rational::Ratio<u128>;
 
 impl EpochNumberWithFraction {
-    pub fn new(number: u64, index: u64, length: u64) -> Self {
-        debug_assert!(number < 1 << 24);
-        debug_assert!(index < 1 << 16);
-        debug_assert!(length < 1 << 16);
-        debug_assert!(length > 0);
-        Self::new_unchecked(number, index, length)
+    /// For the harness alone: an epoch with these fields, whatever the length. Fields have to fit.
+    pub fn of_fields(number: u64, index: u64, length: u64) -> Self {
+        assert!(number < 1 << 24 && index < 1 << 16 && length < 1 << 16);
+        Self { number, index, length }
     }
-    pub const fn new_unchecked(number: u64, index: u64, length: u64) -> Self {
-        Self(length << 40 | index << 24 | number)
+    fn described(self) -> Self {
+        let Self { number, index, length } = self;
+        if number >= 1 << 24 || index >= 1 << 16 || length >= 1 << 16 || length == 0 {
+            not_modelled(EPOCH, format!("({number}, {index}/{length})"));
+        }
+        self
+    }
+    pub fn new(number: u64, index: u64, length: u64) -> Self {
+        Self { number, index, length }.described()
     }
     pub fn from_full_value(value: u64) -> Self {
-        let epoch = Self(value);
-        if epoch.length() == 0 {
-            Self::new(epoch.number(), 0, 1)
-        } else {
-            epoch
-        }
+        Self { number: value & 0xff_ffff, index: value >> 24 & 0xffff, length: value >> 40 & 0xffff }
+            .described()
     }
     pub fn number(self) -> u64 {
-        self.0 & 0xff_ffff
+        self.number
     }
     pub fn index(self) -> u64 {
-        self.0 >> 24 & 0xffff
+        self.index
     }
     pub fn length(self) -> u64 {
-        self.0 >> 40 & 0xffff
+        self.length
     }
-    /// Panics at a length of 0, except where the whole value is 0.
     pub fn to_rational(self) -> Rational {
-        if self.0 == 0 {
-            return Rational::new_raw(0, 1);
-        }
-        Rational::new(self.index().into(), self.length().into())
-            + Rational::from_integer(self.number().into())
+        let Self { number, index, length } = self.described();
+        Rational::new(index.into(), length.into()) + Rational::from_integer(number.into())
     }
 }
 
-// ---- Keys. Rests on document 01: public keys come in, a key goes out as "settlement key" or as a place. ----
+// ---- Keys. Rest on document 01: public keys come in, a key goes out as "settlement key" or as a place. ----
 
 #[derive(Clone, Debug, PartialEq, Eq)]
 pub struct Privkey {
@@ -177,7 +200,8 @@ impl Privkey {
     }
 }
 
-// ---- Cells, scripts, signer, errors: only carried through. ----
+// ---- Cells, scripts, signer, errors. Rest on nothing: they only carry what the harness puts in, and what the signer
+// and its lock script are is looked at nowhere in the slices. ----
 
 #[derive(Clone, Debug, PartialEq, Default)]
 pub struct Bytes(pub Vec<u8>);
@@ -188,6 +212,7 @@ impl Bytes {
     }
 }
 
+/// Its args. Every script here has the same code.
 #[derive(Clone, Debug, PartialEq, Default)]
 pub struct Script(pub Bytes);
 
@@ -195,6 +220,8 @@ impl Script {
     pub fn args(&self) -> Bytes {
         self.0.clone()
     }
+    pub fn code_hash(&self) {}
+    pub fn hash_type(&self) {}
 }
 
 #[derive(Clone, Debug, PartialEq, Default)]
@@ -221,14 +248,16 @@ impl CellOutputBuilder {
 }
 
 #[derive(Clone, Debug, Default)]
-pub struct OutPoint {
-    pub tx_hash: [u8; 32],
+pub struct Cell {
+    pub output: CellOutput,
+    pub out_point: CellOutPoint,
+    pub block_number: u64,
 }
 
 #[derive(Clone, Debug, Default)]
-pub struct Cell {
-    pub output: CellOutput,
-    pub out_point: OutPoint,
+pub struct CellOutPoint {
+    pub tx_hash: Byte32,
+    pub index: Index,
 }
 
 #[derive(Clone, Debug, PartialEq)]
@@ -282,10 +311,8 @@ pub struct TransactionView {
     pub delay: EpochNumberWithFraction,
 }
 
-// ---- functions of fiber/channel.rs ----
-
-// Not in the text. Document 01, modules 1 and 7: a key hashes as the
-// first 20 bytes of the CKB hash of its 33 bytes, and these write as the fiber-types functions do.
+// ---- Functions of fiber/channel.rs that are not in the text. Rest on document 01, modules 1 and 7: a key hashes as
+// the first 20 bytes of the CKB hash of its 33 bytes, and these write as the fiber-types functions do. ----
 
 pub fn settlement_tlc_to_witness(
     tlc: &SettlementTlc,
@@ -295,6 +322,7 @@ pub fn settlement_tlc_to_witness(
     settlement_tlc_witness(tlc, for_remote, features)
 }
 
+/// Document 01 does not say what it does where the fiber-types function refuses (above 255 TLCs).
 pub fn settlement_data_to_witness(
     data: &SettlementData,
     for_remote: bool,
@@ -302,9 +330,187 @@ pub fn settlement_data_to_witness(
     local: Privkey,
     remote: Pubkey,
 ) -> Vec<u8> {
-    settlement_data_witness(data, for_remote, features, local.pubkey(), remote).expect("settlement data")
+    settlement_data_witness(data, for_remote, features, local.pubkey(), remote).unwrap_or_else(|_| {
+        not_modelled("fiber-lib's settlement_data_to_witness", format!("{} TLCs", data.tlcs.len()))
+    })
 }
 
 pub fn settlement_tlc_local_pubkey_hash(tlc: &SettlementTlc) -> [u8; 20] {
     blake160(tlc.local_key.pubkey().serialize().as_ref()).0
+}
+
+// ---- A chain, for who calls `build_settlement_tx`. That a transaction has inputs, outputs and witnesses, and a hash
+// that the witnesses are no part of, rests on CKB RFC 0022. The rest rests on nothing: it carries what the harness
+// puts in. ----
+
+/// Its bytes are not in the text, which only compares them with the first bytes of a witness. The harness puts them
+/// there, so any 16 serve.
+pub const XUDT_COMPATIBLE_WITNESS: [u8; 16] = [0x5a; 16];
+
+#[derive(Clone, Copy, Debug, Default, PartialEq, Eq, Hash)]
+pub struct Byte32(pub [u8; 32]);
+
+impl Byte32 {
+    pub fn pack(&self) -> Byte32 {
+        *self
+    }
+}
+
+impl From<Byte32> for Hash256 {
+    fn from(hash: Byte32) -> Hash256 {
+        hash.0.into()
+    }
+}
+
+pub mod ckb_types {
+    pub mod packed {
+        pub use crate::shim::Byte32;
+    }
+}
+
+#[derive(Clone, Copy, Debug, Default)]
+pub struct Index(pub u32);
+
+impl Index {
+    pub fn value(self) -> u32 {
+        self.0
+    }
+}
+
+#[derive(Clone, Debug, PartialEq, Eq, Hash)]
+pub struct OutPoint(pub Byte32, pub u32);
+
+impl OutPoint {
+    pub fn new(tx_hash: Byte32, index: u32) -> OutPoint {
+        OutPoint(tx_hash, index)
+    }
+}
+
+#[derive(Clone, Debug)]
+pub struct CellInput(pub OutPoint);
+
+impl CellInput {
+    pub fn previous_output(&self) -> OutPoint {
+        self.0.clone()
+    }
+}
+
+#[derive(Clone, Debug)]
+pub struct List<T>(pub Vec<T>);
+
+impl<T: Clone> List<T> {
+    pub fn len(&self) -> usize {
+        self.0.len()
+    }
+    pub fn get(&self, place: usize) -> Option<T> {
+        self.0.get(place).cloned()
+    }
+}
+
+#[derive(Clone, Debug)]
+pub struct Transaction {
+    pub hash: Byte32,
+    pub inputs: List<CellInput>,
+    pub outputs: List<CellOutput>,
+    pub witnesses: List<Bytes>,
+}
+
+impl Transaction {
+    pub fn calc_tx_hash(&self) -> Byte32 {
+        self.hash
+    }
+    pub fn raw(&self) -> &Transaction {
+        self
+    }
+    pub fn inputs(&self) -> List<CellInput> {
+        self.inputs.clone()
+    }
+    pub fn outputs(&self) -> List<CellOutput> {
+        self.outputs.clone()
+    }
+    pub fn witnesses(&self) -> List<Bytes> {
+        self.witnesses.clone()
+    }
+}
+
+#[derive(Debug, PartialEq)]
+pub enum Status {
+    Committed,
+}
+
+pub enum Either<L, R> {
+    Left(L),
+    #[allow(dead_code)] // the text has an arm for it, the harness never makes one
+    Right(R),
+}
+
+pub struct TxStatus {
+    pub status: Status,
+}
+
+/// Stands at both places where ckb-jsonrpc-types has something with an `inner`.
+pub struct Inner<T> {
+    pub inner: T,
+}
+
+pub struct TransactionWithStatus {
+    pub tx_status: TxStatus,
+    pub transaction: Option<Inner<Either<Inner<Transaction>, ()>>>,
+}
+
+pub struct Page<T> {
+    pub objects: Vec<T>,
+    pub last_cursor: (),
+}
+
+pub struct IndexedTx(Byte32);
+
+impl IndexedTx {
+    pub fn tx_hash(&self) -> Byte32 {
+        self.0
+    }
+}
+
+pub struct HeaderView(EpochNumberWithFraction);
+
+impl HeaderView {
+    pub fn epoch(&self) -> EpochNumberWithFraction {
+        self.0
+    }
+}
+
+#[derive(Clone)]
+pub struct SearchKey;
+
+pub enum Order {
+    Asc,
+}
+
+/// A node that knows these transactions, each committed in a block of this epoch.
+pub struct CkbRpcClient {
+    pub transactions: Vec<Transaction>,
+    pub epoch: EpochNumberWithFraction,
+}
+
+impl CkbRpcClient {
+    pub fn get_transactions(
+        &self,
+        _: SearchKey,
+        _: Order,
+        _limit: u32,
+        after: Option<()>,
+    ) -> Result<Page<IndexedTx>, RpcError> {
+        let all = self.transactions.iter().filter(|_| after.is_none());
+        Ok(Page { objects: all.map(|tx| IndexedTx(tx.hash)).collect(), last_cursor: () })
+    }
+    pub fn get_transaction(&self, hash: Byte32) -> Result<Option<TransactionWithStatus>, RpcError> {
+        let found = self.transactions.iter().find(|tx| tx.hash == hash);
+        Ok(found.map(|tx| TransactionWithStatus {
+            tx_status: TxStatus { status: Status::Committed },
+            transaction: Some(Inner { inner: Either::Left(Inner { inner: tx.clone() }) }),
+        }))
+    }
+    pub fn get_header_by_number(&self, _: u64) -> Result<Option<HeaderView>, RpcError> {
+        Ok(Some(HeaderView(self.epoch)))
+    }
 }

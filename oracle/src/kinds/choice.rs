@@ -171,7 +171,14 @@ impl Kind for Choice {
             // Its way to turn down args that are too short to hold a since value.
             calls::Choice::Panic if asked.args.len() < 28 => Rust::TurnedDown,
             calls::Choice::Panic => Rust::Panicked(String::new()),
+            calls::Choice::NotModelled(not_modelled) => Rust::NotModelled(not_modelled),
         }
+    }
+
+    /// A later settlement whose delay has the length 0: the text makes an epoch of it, which is then not looked at.
+    /// In a first settlement document 01 has row 7, outside the equality.
+    fn not_shown(asked: &Asked) -> bool {
+        asked.args.len() >= 28 && asked.args[27] >> 5 == 0b101 && asked.args[25..27] == [0, 0]
     }
 
     fn class(asked: &Asked, chosen: &Chosen) -> &'static str {

@@ -1,4 +1,5 @@
-//! The sliced reference, called with plain data. A panic is an answer.
+//! The sliced reference, called with plain data. A panic is an answer; one that a stand-in raised because nothing
+//! says what the real thing does is an answer of its own kind.
 
 use super::*;
 use crate::document::Epoch;
@@ -13,10 +14,15 @@ pub enum Rust<V> {
     /// Nothing to do yet: 20, 21 or 22.
     Wait(u64),
     Panicked(String),
+    /// The text handed a stand-in what no document at hand speaks about. What the Rust does is not shown.
+    NotModelled(NotModelled),
 }
 
 pub fn caught<V>(call: impl FnOnce() -> Rust<V>) -> Rust<V> {
     catch_unwind(AssertUnwindSafe(call)).unwrap_or_else(|panic| {
+        if let Some(not_modelled) = panic.downcast_ref::<NotModelled>() {
+            return Rust::NotModelled(not_modelled.clone());
+        }
         let text = panic.downcast_ref::<String>().cloned();
         let text = text.or_else(|| panic.downcast_ref::<&str>().map(|t| t.to_string()));
         Rust::Panicked(text.unwrap_or_default())
@@ -31,7 +37,7 @@ pub fn caught_or<V>(other: V, call: impl FnOnce() -> V) -> V {
 // ---- Epochs and since values ----
 
 fn packed(epoch: Epoch) -> EpochNumberWithFraction {
-    EpochNumberWithFraction::new_unchecked(epoch.number, epoch.index, epoch.length)
+    EpochNumberWithFraction::of_fields(epoch.number, epoch.index, epoch.length)
 }
 
 fn unpacked(epoch: EpochNumberWithFraction) -> Epoch {
@@ -49,11 +55,6 @@ pub fn scale(delay: Epoch, numerator: u64, denominator: u64) -> Rust<Epoch> {
 /// Fields have to fit, as above.
 pub fn due(header: Epoch, delay: Epoch, current: Epoch) -> Rust<bool> {
     caught(|| Rust::Value(due_condition(packed(header), packed(delay), packed(current))))
-}
-
-/// The epoch that a since's value stands for.
-pub fn epoch_of_value(value: u64) -> Rust<Epoch> {
-    caught(|| Rust::Value(unpacked(EpochNumberWithFraction::from_full_value(value))))
 }
 
 pub fn expiry(since: u64) -> Rust<Option<u64>> {
@@ -216,6 +217,7 @@ pub enum Choice {
     Wait(u8),
     Error(String),
     Panic,
+    NotModelled(NotModelled),
 }
 
 fn algorithm(alg: u8) -> HashAlgorithm {
@@ -297,51 +299,70 @@ pub fn tracked(case: &Case) -> Vec<Tracked> {
         .collect()
 }
 
+fn tracked_list(case: &Case) -> Vec<TrackedSettlementTlc> {
+    let entry = |t: &Tracked| TrackedSettlementTlc {
+        tlc_id: TLCId::Offered(0),
+        payment_hash: t.hash.into(),
+        hash_algorithm: algorithm(t.alg),
+        witness: t.record.clone(),
+        channel_features: features(case.h),
+    };
+    case.tracked.iter().map(entry).collect()
+}
+
+fn fields((number, index, length): (u64, u64, u64)) -> EpochNumberWithFraction {
+    EpochNumberWithFraction::of_fields(number, index, length)
+}
+
+fn cell(case: &Case) -> Cell {
+    Cell { output: CellOutput(Script(Bytes(case.args.clone()))), ..Cell::default() }
+}
+
 pub fn choice(case: &Case) -> Choice {
-    let features = features(case.h);
     let read = match &case.witness {
         None => None,
-        Some(witness) => match SettlementWitness::build_from_witness(witness, features) {
+        Some(witness) => match SettlementWitness::build_from_witness(witness, features(case.h)) {
             None => return Choice::Unread,
             read => read,
         },
     };
-    let epoch = |(number, index, length)| EpochNumberWithFraction::new_unchecked(number, index, length);
+    built(case, fields(case.header), read, &tracked_list(case))
+}
+
+/// What `build_settlement_tx` makes of the case with this header's epoch, witness and tracked list.
+fn built(
+    case: &Case,
+    header: EpochNumberWithFraction,
+    read: Option<SettlementWitness>,
+    tracked: &[TrackedSettlementTlc],
+) -> Choice {
     let data = settlement_data(case);
-    let tracked: Vec<TrackedSettlementTlc> = case
-        .tracked
-        .iter()
-        .map(|t| TrackedSettlementTlc {
-            tlc_id: TLCId::Offered(0),
-            payment_hash: t.hash.into(),
-            hash_algorithm: algorithm(t.alg),
-            witness: t.record.clone(),
-            channel_features: features,
-        })
-        .collect();
-    let cell = Cell { output: CellOutput(Script(Bytes(case.args.clone()))), out_point: OutPoint::default() };
+    let is_later = read.is_some();
     MARKS.with(|m| m.set(Marks::default()));
     let answer = catch_unwind(AssertUnwindSafe(|| {
         build_settlement_tx(
-            cell,
-            epoch(case.header),
-            epoch(case.current),
+            cell(case),
+            header,
+            fields(case.current),
             case.time,
             &NodeId::local(),
             case.for_remote,
             channel_data(case),
             &data,
             read,
-            &tracked,
+            tracked,
             &LocalSigner,
             &mut NoCells,
             &Store(&case.preimages),
         )
     }));
     match answer {
-        Err(_) => Choice::Panic,
+        Err(panic) => match panic.downcast::<NotModelled>() {
+            Ok(not_modelled) => Choice::NotModelled(*not_modelled),
+            Err(_) => Choice::Panic,
+        },
         Ok(Err(error)) => Choice::Error(error.to_string()),
-        Ok(Ok(None)) => Choice::Wait(wait_number(case)),
+        Ok(Ok(None)) => Choice::Wait(wait_number(is_later)),
         Ok(Ok(Some(t))) => Choice::Chosen(Chosen {
             unlock: t.unlock,
             state: t.state,
@@ -355,13 +376,70 @@ pub fn choice(case: &Case) -> Choice {
 
 /// One `Since` is made for the args and one for each TLC walked in a later settlement. A later settlement that gets
 /// to the walk and waits has at least one TLC.
-fn wait_number(case: &Case) -> u8 {
+fn wait_number(is_later: bool) -> u8 {
     let marks = MARKS.with(|m| m.get());
     if marks.list_differs {
         20
-    } else if case.witness.is_some() && marks.sinces == 1 {
+    } else if is_later && marks.sinces == 1 {
         21
     } else {
         22
+    }
+}
+
+// ---- Who calls build_settlement_tx ----
+
+/// What becomes of a live cell whose transaction has this witness.
+#[derive(Debug, Clone, PartialEq, Eq)]
+pub enum OnLiveCell {
+    /// The caller's statements pass it over: `build_settlement_tx` is not called.
+    PassedOver,
+    /// What is chosen, and whether the cell was taken for a first settlement.
+    Chosen { as_first: bool, choice: Choice },
+}
+
+/// Keeps nothing: the scan only writes to it.
+impl caller::WatchtowerStore for Store<'_> {
+    fn insert_watch_preimage(&self, _: NodeId, _: Hash256, _: Hash256) {}
+    fn insert_onchain_tlc_settlement(
+        &self,
+        _: &NodeId,
+        _: &Hash256,
+        _: TLCId,
+        _: caller::OnChainTlcSettlement,
+    ) {
+    }
+}
+
+/// The case's later settlement on a chain: the transaction spends the first cell and leaves the live cell that is to
+/// be settled. The scan is given it with the witness `scanned`, the caller with the case's own; its hash is the same,
+/// since it is not over the witnesses.
+pub fn on_live_cell(case: &Case, scanned: &[u8]) -> OnLiveCell {
+    let first = OutPoint(Byte32([1; 32]), 0);
+    let hash = Byte32([2; 32]);
+    let node = |witness: &[u8]| CkbRpcClient {
+        transactions: vec![Transaction {
+            hash,
+            inputs: List(vec![CellInput(first.clone())]),
+            outputs: List(vec![cell(case).output]),
+            witnesses: List(vec![Bytes([&XUDT_COMPATIBLE_WITNESS, witness].concat())]),
+        }],
+        epoch: fields(case.header),
+    };
+    let handed_on = caller::on_live_cell(
+        Cell { out_point: CellOutPoint { tx_hash: hash, index: Index(0) }, ..cell(case) },
+        &Script(Bytes(case.args[..36].to_vec())),
+        first.clone(),
+        tracked_settlement_tlcs(&settlement_data(case), case.for_remote, features(case.h)),
+        &node(scanned),
+        &node(case.witness.as_deref().expect("a later settlement")),
+        &Store(&case.preimages),
+        &channel_data(case),
+    );
+    match handed_on {
+        None => OnLiveCell::PassedOver,
+        Some((header, read, tracked)) => {
+            OnLiveCell::Chosen { as_first: read.is_none(), choice: built(case, header, read, &tracked) }
+        }
     }
 }
