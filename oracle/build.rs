@@ -21,6 +21,8 @@ const EXPORTS: &[&str] = &[
     "fiber_test_key_hash",
     "fiber_test_ckb_hash",
     "fiber_test_sha256",
+    "fiber_settlement_read",
+    "fiber_settlement_update",
 ];
 
 /// What is taken from a file.

@@ -8,6 +8,7 @@ use crate::reference::calls::Rust;
 use crate::run::{self, Options, Tally};
 use std::collections::BTreeSet;
 
+pub mod chain;
 mod choice;
 mod due;
 mod expiry;
@@ -35,6 +36,8 @@ pub trait Kind {
     const EXPORT: Option<(&'static str, bool)> = None;
     /// How many lines of the dump are its own.
     const DUMP_LINES: usize;
+    /// Does the dump tell document 01's rows, with number and place, those outside the equality among them?
+    const DUMP_ROWS: bool = false;
 
     /// Inputs picked by hand, the most telling first.
     fn edges() -> Vec<Self::Input>;
@@ -43,6 +46,9 @@ pub trait Kind {
     fn grid(place: u64) -> Self::Input;
     fn random(random: &mut Random) -> Self::Input;
     /// For the dump, where short inputs are wanted.
+    fn edges_for_dump() -> Vec<Self::Input> {
+        Self::edges()
+    }
     fn random_for_dump(random: &mut Random) -> Self::Input {
         Self::random(random)
     }
@@ -106,6 +112,7 @@ pub const TABLE: &[Entry] = &[
     entry::<hash::Sha256>(),
     entry::<read::Reader>(),
     entry::<update::Update>(),
+    entry::<chain::Chain>(),
     entry::<first::First>(),
     entry::<choice::Choice>(),
 ];

@@ -1,5 +1,6 @@
 //! The reference's own text compared with the port. `oracle --help` says how; README.md says what it rests on.
 
+mod bench;
 mod document;
 mod kinds;
 mod partings;
@@ -28,6 +29,7 @@ oracle: the text of nervosnetwork/fiber at 21c4dfbdbd, compared with the port ov
       --no-port       compares document 01 and the Rust alone
   oracle one KIND SEED CASE [--no-port]   runs one case alone and prints all answers
   oracle dump [--seed X]               prints a sample of the Rust's answers, in the format told at its top
+  oracle bench                         measures reader and update beside the Rust (a release build)
   oracle partings                      prints where document 01 and the Rust part, by running the Rust
 
 Exit status: 0 agreed, 1 a case failed, 2 not run (wrong use, or the library lacks an export).
@@ -59,6 +61,10 @@ fn main() {
         ["one", kind, seed, case, "--no-port"] => one(kind, seed, case, false),
         ["dump"] => dump(1),
         ["dump", "--seed", seed] => dump(number("--seed", seed)),
+        ["bench"] => match bench::run() {
+            true => 0,
+            false => wrong("the library has no reader or no update"),
+        },
         ["partings"] => {
             partings::print();
             0
@@ -190,6 +196,8 @@ const DUMP_HEADER: &str = "\
 # One case per line: kind, inputs, `=`, answers, parted by single blanks. Lines that begin with # are comments.
 # Numbers are decimal, byte strings lower-case hex, `-` is the empty byte string. The answer `none` is the Rust's
 # None: for `mul` a refusal, whose number the Rust does not tell (7 or 8 in document 01), for `expiry` no expiry.
+# `refused`, in lines of `read` and `update`, is a refusal with number and place from document 01's table: the Rust
+# turns these inputs down too, without number or place; but for 6, 13 and 14, for which it is not asked.
 #
 #   mul     number index length numerator denominator = number index length, or none
 #   due     header, delay and current, each as number index length = 1 if due, else 0
@@ -197,7 +205,9 @@ const DUMP_HEADER: &str = "\
 #   key     public key, 33 bytes = key hash, 20 bytes
 #   ckb     message = CKB hash, 32 bytes
 #   sha256  message = SHA-256, 32 bytes
+#   read    h witness = n, number of unlocks, places of the share part and the first unlock; or refused number place
+#   update  h witness, length of the output buffer = the state left; or refused number place
 #
-# Left out are inputs outside the equality of document 01: what cannot be handed to the Rust (fields beyond their
+# Left out are other inputs outside the equality of document 01: what cannot be handed to the Rust (fields beyond their
 # bits, keys of other lengths), whole parts above 16777215, a length of 0 in the due test.
 ";

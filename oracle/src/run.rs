@@ -281,20 +281,26 @@ pub fn one<K: Kind>(seed: u64, case: u64, port: bool) -> bool {
     faults.is_empty()
 }
 
-/// Lines `kind inputs = answer` with the Rust's answers: the edges first, then random inputs.
+/// Lines `kind inputs = answer` with the Rust's answers: the edges first, then random inputs. With `DUMP_ROWS` a row
+/// is told by document 01's number and place, and the Rust has to turn it down too where it can be asked.
 pub fn dump<K: Kind>(seed: u64) -> Vec<String> {
     let random = (0..).map(|case| K::random_for_dump(&mut Random::of(seed, K::NAME, case)));
     let mut seen = HashSet::new();
-    K::edges()
+    K::edges_for_dump()
         .into_iter()
         .chain(random)
-        .filter(|input| K::document(input).inside() && !K::not_shown(input))
         .filter_map(|input| {
-            let answer = match calls::caught(|| K::rust(&input)) {
-                Rust::Value(value) => K::show_value(&value),
-                Rust::TurnedDown => "none".to_string(),
-                Rust::Wait(number) => format!("wait {number}"),
-                Rust::Panicked(_) | Rust::NotModelled(_) => return None,
+            let document = K::document(&input);
+            let asked = document.inside() && !K::not_shown(&input);
+            let rust = asked.then(|| calls::caught(|| K::rust(&input)));
+            let answer = match (rust, document) {
+                (None | Some(Rust::TurnedDown), Document::Row(row, place)) if K::DUMP_ROWS => {
+                    format!("refused {} {place}", row.number)
+                }
+                (Some(Rust::Value(value)), _) => K::show_value(&value),
+                (Some(Rust::TurnedDown), _) => "none".to_string(),
+                (Some(Rust::Wait(number)), _) => format!("wait {number}"),
+                (None | Some(Rust::Panicked(_) | Rust::NotModelled(_)), _) => return None,
             };
             Some(format!("{} {} = {answer}", K::NAME, K::show_input(&input)))
         })

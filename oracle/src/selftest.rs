@@ -3,7 +3,7 @@
 
 use crate::document::settlement::{self, Asked, Data};
 use crate::document::{self, Document, Epoch};
-use crate::kinds::TABLE;
+use crate::kinds::{chain, TABLE};
 use crate::port;
 use crate::random::Random;
 use crate::reference::calls::{self, Rust, Update};
@@ -37,6 +37,7 @@ pub fn run() {
     choice_example();
     order_of_rows();
     reached();
+    runs_of_updates();
     println!("selftest: all passed, {} build", crate::build());
 }
 
@@ -362,4 +363,15 @@ fn reached() {
         }
     }
     println!("read, update, first, choice: every row and every kind of choice is reached");
+}
+
+/// Runs of updates say everything that an update can say of a kept state, and notice faults.
+fn runs_of_updates() {
+    let said = chain::said(2000);
+    for one in ["0", "4", "5", "6", "13", "14", "14 alone"] {
+        assert!(said.contains(one), "chain: `{one}` is not reached");
+    }
+    let unnoticed = chain::unnoticed();
+    assert!(unnoticed.is_empty(), "chain: not noticed: {}", unnoticed.join(", "));
+    println!("chain: every answer is reached, {} faults are noticed", chain::FAULTS.len());
 }

@@ -253,7 +253,7 @@ module _ (u : Unlock) (signature preimage p q : List ℕ) (e : length signature 
   }
 
 -- what an unlock that was read says of the slice
-unlock-read : (s : List ℕ) (at : ℕ) (u : Unlock) → readUnlock s at ≡ unlock·.Record u
+pub unlock-read : (s : List ℕ) (at : ℕ) (u : Unlock) → readUnlock s at ≡ unlock·.Record u
     → (at + witnessLen (u .flag) ≤ length s) × (u ≡ record { byte = getD s at 0; flag = eqb (getD s (at + 1) 0) 1 })
 unfolding readUnlock
 unlock-read s at u e = go (eqb (getD s (at + 1) 0) 1) (leb (at + witnessLen (eqb (getD s (at + 1) 0) 1)) (length s)) refl refl e

@@ -38,7 +38,7 @@ impl Tlc {
 }
 
 // Whether hashes can have h bytes: 20, or 32 on a channel with full hashes.
-fn known(h: usize) -> bool
+pub fn known(h: usize) -> bool
     ensures { λ r. ⌜ r ≡ S.known h ⌝ }
 {
     if h == 20 {

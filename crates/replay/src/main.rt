@@ -3,6 +3,7 @@
 // The list's top says how it was made and what a line holds: kind, inputs, '=', answers. Empty lines, and lines that start
 // with '#', are passed over.
 use fiber_bytes::part_of;
+use fiber_types::answer::Written;
 use fiber_types::epoch::DueTest;
 use fiber_types::epoch::Epoch;
 use fiber_types::epoch::Scaled;
@@ -18,6 +19,10 @@ use test_lines::agrees;
 use test_lines::find;
 use test_lines::number;
 use test_lines::unhex;
+use watchtower::update;
+use watchtower::witness;
+use watchtower::witness::WitnessRead;
+ghost use mathlib.Core.Path.{_≡_};
 ghost use Prim.Native.Nat.{_<_, _≤_};
 ghost use lib.ListN.{length};
 
@@ -28,6 +33,8 @@ enum Kind {
     Key,
     Ckb,
     Sha256,
+    Read,
+    Update,
     None,
 }
 
@@ -39,8 +46,8 @@ struct Row {
 
 // Cases run and cases that agree, by kind.
 struct Counts {
-    run: [u64; 6],
-    agree: [u64; 6],
+    run: [u64; 8],
+    agree: [u64; 8],
 }
 
 fn named(b: u8) -> Kind {
@@ -61,6 +68,12 @@ fn named(b: u8) -> Kind {
     }
     if b == b's' {
         return Kind::Sha256;
+    }
+    if b == b'r' {
+        return Kind::Read;
+    }
+    if b == b'u' {
+        return Kind::Update;
     }
     Kind::None
 }
@@ -229,11 +242,113 @@ fn bytes_agree(kind: Kind, s: &[u8], at: usize, out: &mut [u8]) -> bool
     }
 }
 
+// Whether a refusal is the one that the line names: number and place are the only numbers behind '='.
+fn refusal_agrees(number: usize, place: usize, r: Row) -> bool {
+    let x = r.x;
+    if r.n != 2 {
+        return false;
+    }
+    if number as u64 != x[0] {
+        return false;
+    }
+    place as u64 == x[1]
+}
+
+fn read_agrees(h: u64, w: &[u8], r: Row) -> bool {
+    let x = r.x;
+    match witness::read(h as usize, w) {
+        WitnessRead::Whole {
+            n,
+            unlocks,
+            share,
+            first,
+        } => {
+            if r.n != 4 {
+                return false;
+            }
+            if n as u64 != x[0] {
+                return false;
+            }
+            if unlocks as u64 != x[1] {
+                return false;
+            }
+            if share as u64 != x[2] {
+                return false;
+            }
+            first as u64 == x[3]
+        }
+        WitnessRead::Refused { number, place } => refusal_agrees(number, place, r),
+    }
+}
+
+fn update_agrees(h: u64, w: &[u8], out: &mut [u8], hex: &[u8], r: Row) -> bool {
+    match update::update(h as usize, w, out) {
+        Written::Bytes(n) => {
+            if out.len() < n {
+                return false;
+            }
+            agrees(&out[0..n], hex)
+        }
+        Written::Refused { number, place } => refusal_agrees(number, place, r),
+    }
+}
+
+// The place behind the field at a place, or the end.
+fn next_field(s: &[u8], at: usize) -> usize
+    requires { ⌜ at ≤ length (now s) ⌝ }
+    ensures { λ r. ⌜ r ≤ length (now (s .entry)) ⌝ }
+{
+    let e = find(s, at, b' ');
+    if s.len() <= e {
+        return s.len();
+    }
+    e + 1
+}
+
+// The field at a place.
+fn field(s: &[u8], at: usize) -> &[u8]
+    requires { ⌜ at ≤ length (now s) ⌝ }
+{
+    let e = find(s, at, b' ');
+    part_of(s, at, e - at)
+}
+
+// A case of the reader or the update: h, the witness, for the update the length of its output; then '=' and the answer.
+fn witness_agrees(kind: Kind, s: &[u8], at: usize, out: &mut [u8], state: &mut [u8]) -> bool
+    requires { ⌜ at ≤ length (now s) ⌝ }
+{
+    let h = number(field(s, at));
+    let second = next_field(s, at);
+    let n = filled(field(s, second), out);
+    let third = next_field(s, second);
+    let fourth = next_field(s, third);
+    match kind {
+        Kind::Read => read_agrees(h, &out[0..n], numbers(s, fourth)),
+        Kind::Update => {
+            let room = number(field(s, third)) as usize;
+            if state.len() < room {
+                return false;
+            }
+            let answer = next_field(s, fourth);
+            update_agrees(
+                h,
+                &out[0..n],
+                &mut state[0..room],
+                field(s, answer),
+                numbers(s, answer),
+            )
+        }
+        _ => false,
+    }
+}
+
 // Whether the port agrees on the line's case, whose inputs start at a place.
-fn case_agrees(kind: Kind, s: &[u8], at: usize, out: &mut [u8]) -> bool
+fn case_agrees(kind: Kind, s: &[u8], at: usize, out: &mut [u8], state: &mut [u8]) -> bool
     requires { ⌜ at ≤ length (now s) ⌝ }
 {
     match kind {
+        Kind::Read => witness_agrees(kind, s, at, out, state),
+        Kind::Update => witness_agrees(kind, s, at, out, state),
         Kind::Mul => mul_agrees(numbers(s, at)),
         Kind::Due => due_agrees(numbers(s, at)),
         Kind::Expiry => expiry_agrees(numbers(s, at)),
@@ -242,7 +357,7 @@ fn case_agrees(kind: Kind, s: &[u8], at: usize, out: &mut [u8]) -> bool
 }
 
 fn place_of(kind: Kind) -> usize
-    ensures { λ r. ⌜ r ≤ 6 ⌝ }
+    ensures { λ r. ⌜ r ≤ 8 ⌝ }
 {
     match kind {
         Kind::Mul => 0,
@@ -251,39 +366,41 @@ fn place_of(kind: Kind) -> usize
         Kind::Key => 3,
         Kind::Ckb => 4,
         Kind::Sha256 => 5,
-        Kind::None => 6,
+        Kind::Read => 6,
+        Kind::Update => 7,
+        Kind::None => 8,
     }
 }
 
 // Runs the case on the line that starts at a place.
-fn line(c: Counts, s: &[u8], at: usize, out: &mut [u8]) -> Counts
+fn line(c: Counts, s: &[u8], at: usize, out: &mut [u8], state: &mut [u8]) -> Counts
     requires { ⌜ at < length (now s) ⌝ }
 {
     let kind = named(s[at]);
     let k = place_of(kind);
-    if 6 <= k {
+    if 8 <= k {
         return c;
     }
     let first = find(s, at, b' ');
     if s.len() <= first {
         return c;
     }
-    let agree = case_agrees(kind, s, first + 1, out);
+    let agree = case_agrees(kind, s, first + 1, out, state);
     let mut next = c;
     next.run[k] = wrapping_add_u64(next.run[k], 1);
     next.agree[k] = wrapping_add_u64(next.agree[k], agree as u64);
     next
 }
 
-fn all(s: &[u8], out: &mut [u8]) -> Counts {
+fn all(s: &[u8], out: &mut [u8], state: &mut [u8]) -> Counts {
     let mut c = Counts {
-        run: [0; 6],
-        agree: [0; 6],
+        run: [0; 8],
+        agree: [0; 8],
     };
     let mut at = 0;
     while at < s.len() {
         let end = find(s, at, 10);
-        c = line(c, s, at, out);
+        c = line(c, s, at, out, state);
         at = end + 1;
     }
     c
@@ -297,6 +414,13 @@ fn print(name: &[u8], agree: u64, run: u64) {
     io::write_all(STDOUT_FILENO, b" agree\n");
 }
 
+// Longer than the list.
+fn text_buffer() -> [u8; 524_288]
+    ensures { λ r. ⌜ 524288 ≡ length r ⌝ }
+{
+    [0; 524_288]
+}
+
 fn main() {
     let path = b"oracle.txt";
     let file = os::open_read(path);
@@ -304,11 +428,12 @@ fn main() {
         os::fail(path);
         return;
     }
-    let mut text = io::large_buffer();
+    let mut text = text_buffer();
     let n = io::read_full(file, &mut text);
     libc::close(file);
     let mut out = io::buffer();
-    let c = all(&text[..n], &mut out);
+    let mut state = io::buffer();
+    let c = all(&text[..n], &mut out, &mut state);
     let run = c.run;
     let agree = c.agree;
     print(b"mul: ", agree[0], run[0]);
@@ -317,4 +442,6 @@ fn main() {
     print(b"key: ", agree[3], run[3]);
     print(b"ckb: ", agree[4], run[4]);
     print(b"sha256: ", agree[5], run[5]);
+    print(b"read: ", agree[6], run[6]);
+    print(b"update: ", agree[7], run[7]);
 }

@@ -19,6 +19,9 @@ use Rattle.settlement_c.specs.Answers.{Said, refused, fields, told, call
 pub pair-length : (a b : ℕ) → length (leBytes 8 a ++ leBytes 8 b) ≡ 16
 pair-length a b = omega (arith, length-append (leBytes 8 a) (leBytes 8 b), leBytes-length 8 a, leBytes-length 8 b)
 
+pub triple-length : (a b c : ℕ) → length (leBytes 8 a ++ leBytes 8 b ++ leBytes 8 c) ≡ 24
+triple-length a b c = omega (arith, length-append (leBytes 8 a ++ leBytes 8 b) (leBytes 8 c), pair-length a b, leBytes-length 8 c)
+
 module _ (o : List ℕ) where
   pub front-by : (o₁ o₂ : List ℕ) (number place : ℕ) → o₁ ≡ sets o 0 (leBytes 8 number) → o₂ ≡ sets o₁ 8 (leBytes 8 place) → o₂ ≡ sets o 0 (leBytes 8 number ++ leBytes 8 place)
   front-by o₁ o₂ number place e f = sets-then o (leBytes 8 number) (leBytes 8 place) 8 e f (sym (leBytes-length 8 number))

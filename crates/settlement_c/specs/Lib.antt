@@ -1,2 +1,3 @@
 -- What the C interface's operations mean.
 pub mod Answers
+pub mod Settlement

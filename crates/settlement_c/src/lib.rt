@@ -1,5 +1,7 @@
-// The C interface. Until the settlement operations stand here it has exports for tests and benchmarks alone, under names
-// that say so.
+// The C interface: the settlement operations (settlement.rt), and below them exports for tests and benchmarks alone, under
+// names that say so.
+pub mod settlement;
+
 use fiber_bytes::put;
 use fiber_bytes::put_le64;
 use fiber_types::epoch::DueTest;

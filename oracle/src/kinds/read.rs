@@ -4,6 +4,7 @@ use super::witness::{self, Input};
 use super::{hex, Kind};
 use crate::document::settlement::{self, Read};
 use crate::document::Document;
+use crate::port::{self, Called};
 use crate::random::Random;
 use crate::reference::calls::{self, Rust};
 
@@ -15,7 +16,9 @@ impl Kind for Reader {
 
     const NAME: &'static str = "read";
     const ABOUT: &'static str = "a witness read";
-    const DUMP_LINES: usize = 0;
+    const EXPORT: Option<(&'static str, bool)> = Some(("fiber_settlement_read", port::READ.is_some()));
+    const DUMP_LINES: usize = 200;
+    const DUMP_ROWS: bool = true;
 
     fn edges() -> Vec<Input> {
         witness::edges()
@@ -31,6 +34,14 @@ impl Kind for Reader {
 
     fn random(random: &mut Random) -> Input {
         witness::random(random)
+    }
+
+    fn edges_for_dump() -> Vec<Input> {
+        witness::edges_for_dump()
+    }
+
+    fn random_for_dump(random: &mut Random) -> Input {
+        witness::random_for_dump(random)
     }
 
     fn document(i: &Input) -> Document<Read> {
@@ -57,6 +68,10 @@ impl Kind for Reader {
             return Err("the Rust writes other bytes back than document 01");
         }
         Ok(())
+    }
+
+    fn port(i: &Input, random: &mut Random) -> Called<Read> {
+        port::read(random, port::READ.expect("checked by the caller"), i.h, &i.witness)
     }
 
     fn class(_: &Input, read: &Read) -> &'static str {

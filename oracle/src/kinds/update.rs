@@ -3,6 +3,7 @@
 use super::witness::{self, Input};
 use super::{hex, Kind};
 use crate::document::{settlement, Document};
+use crate::port::{self, Called};
 use crate::random::Random;
 use crate::reference::calls::{self, Rust};
 
@@ -15,7 +16,9 @@ impl Kind for Update {
 
     const NAME: &'static str = "update";
     const ABOUT: &'static str = "a witness updated";
-    const DUMP_LINES: usize = 0;
+    const EXPORT: Option<(&'static str, bool)> = Some(("fiber_settlement_update", port::UPDATE.is_some()));
+    const DUMP_LINES: usize = 200;
+    const DUMP_ROWS: bool = true;
 
     fn edges() -> Vec<Input> {
         witness::edges()
@@ -33,6 +36,14 @@ impl Kind for Update {
         witness::random(random)
     }
 
+    fn edges_for_dump() -> Vec<Input> {
+        witness::edges_for_dump()
+    }
+
+    fn random_for_dump(random: &mut Random) -> Input {
+        witness::random_for_dump(random)
+    }
+
     fn document(i: &Input) -> Document<Vec<u8>> {
         settlement::update(i.h, &i.witness, i.output)
     }
@@ -43,6 +54,10 @@ impl Kind for Update {
             calls::Update::Unread | calls::Update::Refused => Rust::TurnedDown,
             calls::Update::Panic => Rust::Panicked(String::new()),
         }
+    }
+
+    fn port(i: &Input, random: &mut Random) -> Called<Vec<u8>> {
+        port::update(random, port::UPDATE.expect("checked by the caller"), i.h, &i.witness, i.output)
     }
 
     fn class(i: &Input, state: &Vec<u8>) -> &'static str {

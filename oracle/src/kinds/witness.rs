@@ -11,11 +11,23 @@ pub struct Input {
     pub output: usize,
 }
 
-/// Long enough for every state.
-const AMPLE: usize = 30_000;
+/// Longer than every state that the witness can leave.
+fn ample(h: u64, witness: &[u8]) -> usize {
+    let n = witness.get(1).copied().unwrap_or(0);
+    73 + usize::from(n) * record_size(h) + 50
+}
+
+/// The size of a TLC record; for another h than 20 and 32 any.
+fn record_size(h: u64) -> usize {
+    if h == 32 {
+        97
+    } else {
+        85
+    }
+}
 
 fn input(h: u64, witness: Vec<u8>) -> Input {
-    Input { h, witness, output: AMPLE }
+    Input { h, output: ample(h, &witness), witness }
 }
 
 /// A state of `n` TLCs behind its count byte, every byte told by its place.
@@ -119,6 +131,24 @@ pub fn grid(place: u64) -> Input {
     grid
 }
 
+/// Short enough for the dump: whoever replays it has small buffers.
+fn is_short(input: &Input) -> bool {
+    input.witness.len() <= 340 && input.output <= 1000
+}
+
+pub fn edges_for_dump() -> Vec<Input> {
+    edges().into_iter().filter(is_short).collect()
+}
+
+pub fn random_for_dump(random: &mut Random) -> Input {
+    loop {
+        let input = self::random(random);
+        if is_short(&input) {
+            return input;
+        }
+    }
+}
+
 /// A number of TLCs: mostly few, seldom at the limit of a byte.
 pub fn some_count(random: &mut Random) -> u8 {
     match random.below(400) {
@@ -162,7 +192,7 @@ pub fn random(random: &mut Random) -> Input {
         0 => random.pick(&[0, 1, 19, 21, 31, 33, 40, 64, 255, 256, 276, 288, 1 << 32 | 20, u64::MAX]),
         _ => random.pick(&[20, 32]),
     };
-    let size = if h == 32 { 97 } else { 85 };
+    let size = record_size(h);
     let n = some_count(random);
     let mut witness = vec![0; 2 + usize::from(n) * size + 72];
     random.fill(&mut witness);
@@ -200,7 +230,8 @@ pub fn random(random: &mut Random) -> Input {
     let output = match random.below(10) {
         0 => random.near(state as u64) as usize,
         1 => random.below(state as u64) as usize,
-        _ => AMPLE,
+        2 => ample(h, &witness) + random.below(5000) as usize,
+        _ => ample(h, &witness),
     };
     Input { h, witness, output }
 }

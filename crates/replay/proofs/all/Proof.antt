@@ -7,10 +7,10 @@ use Rattle.replay.proofs.all.Statement.{statement}
 use Rattle.replay.proofs.all.Tie as tie
 
 abbrev Inv-loop : tie.InvT-loop
-Inv-loop s out₀ c₀ at₀ out c at = length out ≡ length out₀
+Inv-loop s out₀ state₀ c₀ at₀ out state c at = (length out ≡ length out₀) × (length state ≡ length state₀)
 
 abbrev μ-loop : tie.MeasureT-loop
-μ-loop s out₀ c₀ at₀ out c at = length s - at
+μ-loop s out₀ state₀ c₀ at₀ out state c at = length s - at
 
 pub all-spec : {M : Type 1} → statement M
 all-spec =
@@ -21,6 +21,7 @@ all-spec =
     (λ c. search needs)
     (λ c κs. search needs)
     (λ c κs. search needs)
+    (λ c. search needs)
     (λ c. search needs)
     (λ c. search needs)
     (λ c. search needs)

@@ -157,6 +157,17 @@ pub fn update(h: u8, witness: &[u8]) -> Update {
     }
 }
 
+/// The reader alone, for the benchmark: what it builds is dropped.
+pub fn build_only(h: u8, witness: &[u8]) -> bool {
+    std::hint::black_box(SettlementWitness::build_from_witness(witness, features(h))).is_some()
+}
+
+/// Reader, update and writer without more, for the benchmark.
+pub fn updated(h: u8, witness: &[u8]) -> Option<Vec<u8>> {
+    let mut read = SettlementWitness::build_from_witness(witness, features(h))?;
+    read.update().then(|| read.to_witness())
+}
+
 // ---- First records and choice ----
 
 /// A settlement TLC, as the host lends it.

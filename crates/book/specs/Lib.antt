@@ -1,0 +1,3 @@
+-- The book of a channel, and the third demand as one claim about it.
+pub mod Book
+pub mod Demand3

@@ -1,0 +1,2 @@
+-- What the report says.
+pub mod Report

@@ -1,0 +1,122 @@
+-- The text that the program `settle` prints; document 01, "Edges". Text is a list of character codes.
+use Prim.Native.Nat.{ℕ, zero, suc, _+_, _*_, _/_, _%_}
+use mathlib.Core.Bool.{cond}
+use mathlib.Core.List.{List, [], _∷_, _++_}
+use lib.ListN.{length, getD, take, drop}
+use lib.Dec.{ltb}
+use Rattle.fiber_bytes.specs.Bytes.{part}
+use Rattle.fiber_types.specs.declared.answer.Written.{Written}
+use Rattle.fiber_types.specs.declared.answer.Written.the-variants as written·
+use Rattle.fiber_types.specs.Records.{Outcome}
+use Rattle.watchtower.specs.Witness.{recordLen, records}
+use Rattle.watchtower.specs.Update.{updated}
+
+-- ---- numbers
+
+-- the digits of a number, highest first; the fuel is how many there may be
+unfoldable pub digitsWithin : ℕ → ℕ → List ℕ
+digitsWithin zero x = []
+digitsWithin (suc fuel) x =
+    let high = digitsWithin fuel (x / 10) in
+    cond (ltb x 10) ((48 + x) ∷ []) (high ++ ((48 + x % 10) ∷ []))
+
+-- 20 digits hold every number of 64 bits
+unfoldable pub decimal : ℕ → List ℕ
+decimal x = digitsWithin 20 x
+
+-- 0 to 9, a to f
+abbrev pub hexDigit : ℕ → ℕ
+hexDigit x = cond (ltb x 10) (48 + x) (87 + x)
+
+-- two digits to a byte
+unfoldable pub hex : List ℕ → List ℕ
+hex [] = []
+hex (b ∷ bs) = hexDigit (b / 16) ∷ (hexDigit (b % 16) ∷ hex bs)
+
+-- the last byte first: a number that is held lowest byte first, with its highest digit first
+unfoldable pub hexHighest : List ℕ → List ℕ
+hexHighest [] = []
+hexHighest (b ∷ bs) = hexHighest bs ++ hex (b ∷ [])
+
+-- ---- words
+
+abbrev pub blank : ℕ
+blank = 32
+
+abbrev pub newline : ℕ
+newline = 10
+
+-- "tlcs "
+abbrev pub tlcsWord : List ℕ
+tlcsWord = 116 ∷ (108 ∷ (99 ∷ (115 ∷ (blank ∷ []))))
+
+-- "tlc "
+abbrev pub tlcWord : List ℕ
+tlcWord = 116 ∷ (108 ∷ (99 ∷ (blank ∷ [])))
+
+-- "remote "
+abbrev pub remoteWord : List ℕ
+remoteWord = 114 ∷ (101 ∷ (109 ∷ (111 ∷ (116 ∷ (101 ∷ (blank ∷ []))))))
+
+-- "local "
+abbrev pub localWord : List ℕ
+localWord = 108 ∷ (111 ∷ (99 ∷ (97 ∷ (108 ∷ (blank ∷ [])))))
+
+-- "refused "
+abbrev pub refusedWord : List ℕ
+refusedWord = 114 ∷ (101 ∷ (102 ∷ (117 ∷ (115 ∷ (101 ∷ (100 ∷ (blank ∷ [])))))))
+
+-- " at "
+abbrev pub atWord : List ℕ
+atWord = blank ∷ (97 ∷ (116 ∷ (blank ∷ [])))
+
+-- ---- lines
+
+-- a TLC, with its place in the updated list
+unfoldable pub tlcLine : ℕ → List ℕ → List ℕ
+tlcLine i r = tlcWord ++ decimal i ++ (blank ∷ []) ++ hex r ++ (newline ∷ [])
+
+unfoldable pub tlcLines : ℕ → List (List ℕ) → List ℕ
+tlcLines i [] = []
+tlcLines i (r ∷ rs) = tlcLine i r ++ tlcLines (i + 1) rs
+
+-- a share: key hash, and the amount as 32 digits
+unfoldable pub shareLine : List ℕ → List ℕ → List ℕ
+shareLine word s = word ++ hex (part s 0 20) ++ (blank ∷ []) ++ hexHighest (part s 20 16) ++ (newline ∷ [])
+
+unfoldable pub refusedText : ℕ → ℕ → List ℕ
+refusedText number place = refusedWord ++ decimal number ++ atWord ++ decimal place ++ (newline ∷ [])
+
+-- a state of a channel whose hashes have h bytes
+unfoldable pub stateText : ℕ → List ℕ → List ℕ
+stateText h s =
+    let n = getD s 0 0 in
+    let share = 1 + n * recordLen h in
+    tlcsWord
+    ++ decimal n
+    ++ (newline ∷ [])
+    ++ tlcLines 0 (records (recordLen h) n (drop 1 s))
+    ++ shareLine remoteWord (part s share 36)
+    ++ shareLine localWord (part s (share + 36) 36)
+
+-- ---- the report
+
+unfoldable pub saidText : ℕ → List ℕ → Written → List ℕ
+saidText h state (written·.Bytes len) = stateText h (take len state)
+saidText h state (written·.Refused number place) = refusedText number place
+
+-- What a report says, and the buffer for the updated state as it leaves it.
+pub record Report : Type 0 where
+  pub text : List ℕ
+  pub state : List ℕ
+
+unfoldable pub afterUpdate : ℕ → Outcome → Report
+afterUpdate h o = record { text = saidText h (o .bytes) (o .answer); state = o .bytes }
+
+unfoldable pub afterInput : List ℕ → List ℕ → Report
+afterInput [] state = record { text = refusedText 14 0; state = state }
+afterInput (h ∷ w) state = afterUpdate h (updated h w state)
+
+-- the input: one byte h, then the witness; 14 at 0 above 65,536 bytes in all, or for none
+unfoldable pub reported : List ℕ → List ℕ → Report
+reported input state = cond (ltb 65536 (length input)) (record { text = refusedText 14 0; state = state }) (afterInput input state)

@@ -1,0 +1,34 @@
+-- One copy, of zeros or of the share, by what the test of the definition says.
+use mathlib.Core.Path.{ap, _∙_}
+use lib.Seq.{sets}
+use Rattle.watchtower.specs.Update.{shareLeft}
+use Rattle.watchtower.proofs.UpdateLaws.{part-between}
+use borrow.Author.Needs.{needs}
+use Rattle.watchtower.proofs.update.put_share.Statement.{statement}
+use Rattle.watchtower.proofs.update.put_share.Tie as tie
+
+returns : tie.Need-returns
+unfolding shareLeft
+returns c = rw (c .before .before .before .before .before .if1 .taken) (c .before .before .put .ensures)
+
+returns-2 : tie.Need-returns-2
+unfolding shareLeft
+returns-2 c =
+    let a = c .before .before .before .before .before .before .before .before .args in
+    rw (c .before .before .before .before .before .if1 .left) (c .before .before .put2 .ensures ∙ ap (sets (a .out .now) (a .at)) (part-between (a .w .now) (a .from) 36))
+
+pub put-share-spec : {M : Type 1} → statement M
+put-share-spec =
+    tie.close
+    (tie.spec
+    (λ c. search needs)
+    (λ c κs. search needs)
+    (λ c. search needs)
+    (λ c. search needs)
+    (λ c. search needs)
+    (λ c. search needs)
+    (λ c κs. search needs)
+    (λ c. search needs)
+    returns
+    (λ c. search needs)
+    returns-2)
