@@ -23,6 +23,9 @@ const EXPORTS: &[&str] = &[
     "fiber_test_sha256",
     "fiber_settlement_read",
     "fiber_settlement_update",
+    "fiber_settlement_choose",
+    "fiber_test_tlc_witness",
+    "fiber_test_data_witness",
 ];
 
 /// What is taken from a file.

@@ -1,10 +1,10 @@
 //! The settlement core of a Fiber watchtower, for a daemon in Rust.
 //!
 //! A settlement witness holds the TLCs that stand on a channel, what each side owns, and the unlocks that were made.
-//! [`read`] tells what a witness holds, [`update`] takes its unlocks and writes the state left. The work is done by
-//! libsettlement_c.a, a library whose functions are proved to meet their contracts; this crate lends it slices and
-//! turns its answers into Rust's. It has no dependencies, allocates only in [`updated`], and keeps no state: every
-//! function may be called from any thread.
+//! [`read`] tells what a witness holds, [`update`] takes its unlocks and writes the state left, and with the feature
+//! `choose` the function of that name says what is unlocked next. The work is done by libsettlement_c.a, a library whose
+//! functions are proved to meet their contracts; this crate lends it slices and turns its answers into Rust's. It has no
+//! dependencies, allocates only in [`updated`], and keeps no state: every function may be called from any thread.
 //!
 //! # How a daemon links it
 //!
@@ -136,6 +136,8 @@ pub const SHARE_AMOUNT: usize = 20;
 pub const UNLOCK: usize = 67;
 /// The bytes of an unlock with preimage.
 pub const UNLOCK_WITH_PREIMAGE: usize = 99;
+/// Where the signature lies in an unlock, behind its byte and its flag.
+pub const UNLOCK_SIGNATURE: std::ops::Range<usize> = 2..67;
 
 /// The length of a state of `tlcs` TLCs on a channel whose hashes have `h` bytes.
 ///
@@ -257,6 +259,11 @@ mod c {
         ) -> u64;
     }
 }
+
+#[cfg(feature = "choose")]
+mod choose;
+#[cfg(feature = "choose")]
+pub use choose::*;
 
 /// The number of 8 bytes at a place of an answer.
 fn field(answer: &[u8], at: usize) -> u64 {

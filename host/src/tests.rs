@@ -141,3 +141,115 @@ fn every_number_has_a_sentence_of_its_own() {
     let error: Box<dyn Error> = Box::new(Refusal { number: 3, place: 2 });
     assert_eq!(error.to_string(), "the share part that starts at byte 2 of the witness is cut short");
 }
+
+#[cfg(feature = "choose")]
+mod choices {
+    use super::*;
+
+    fn unhex(text: &str) -> Vec<u8> {
+        let digits = if text == "-" { "" } else { text };
+        (0..digits.len())
+            .step_by(2)
+            .map(|at| u8::from_str_radix(&digits[at..at + 2], 16).expect("hex"))
+            .collect()
+    }
+
+    /// One line of choices.txt.
+    fn line(line: &str) {
+        let (input, answer) = line.split_once(" = ").expect("an answer");
+        let mut fields = input.split(' ').skip(1);
+        let mut text = || fields.next().expect("a field");
+        let mut number = || text().parse::<u64>().expect("a number");
+        let (h, for_remote, is_later, time) = (number(), number() == 1, number() == 1, number());
+        let mut epoch = || Epoch { number: number(), index: number(), length: number() };
+        let (header, current) = (epoch(), epoch());
+        let mut amount = || u128::from(number()) | u128::from(number()) << 64;
+        let (local_amount, remote_amount) = (amount(), amount());
+        let [args, tlcs, local_key, remote_key, tracked, preimages, witness] =
+            [(); 7].map(|()| unhex(text()));
+        let length: usize = text().parse().expect("a number");
+        let request = Request {
+            h,
+            for_remote,
+            time,
+            header,
+            current,
+            local_amount,
+            remote_amount,
+            args: &args,
+            tlcs: &tlcs,
+            local_key: local_key[..].try_into().expect("33 bytes"),
+            remote_key: remote_key[..].try_into().expect("33 bytes"),
+            tracked: &tracked,
+            preimages: &preimages,
+            witness: is_later.then_some(&witness[..]),
+        };
+        let mut out = vec![0x55; length + 10];
+        let chosen = choose(&request, &mut out[..length]);
+        let told = match chosen {
+            Err(refusal) => format!("refused {} {}", refusal.number, refusal.place),
+            Ok(chosen) => as_told(&request, &chosen),
+        };
+        assert_eq!(told, answer);
+        let written = chosen.map_or(0, |c| c.unlock.len() + c.state.len() + c.new_args.len());
+        assert!(written <= request.output_length() || written == 0);
+        assert!(out[written..].iter().all(|byte| *byte == 0x55));
+    }
+
+    /// The answer as the line tells it.
+    fn as_told(request: &Request, chosen: &Chosen) -> String {
+        let (kind, byte, pair) = match chosen.choice {
+            Choice::Share(Side::Local) => (0, 0xff, 0),
+            Choice::Share(Side::Remote) => (0, 0xfe, 0),
+            Choice::Tlc { place, way: Way::Timeout } => (1, place, 0),
+            Choice::Tlc { place, way: Way::Preimage { pair } } => (2, place, pair),
+        };
+        let key = match chosen.key {
+            Key::Settlement => "0 0".to_string(),
+            Key::OfTlc(place) => format!("1 {place}"),
+        };
+        let delay = match chosen.delay {
+            None => "0 0 0 0".to_string(),
+            Some(delay) => format!("1 {} {} {}", delay.number, delay.index, delay.length),
+        };
+        // The record is a part of what was lent, by its address; for a share it is empty.
+        let slice = request.witness.unwrap_or(request.tracked);
+        let record = chosen.record.as_ptr() as usize - slice.as_ptr() as usize;
+        let hex = |bytes: &[u8]| bytes.iter().map(|byte| format!("{byte:02x}")).collect::<String>();
+        format!(
+            "{kind} {byte} {} {} {key} {delay} {record} {} {pair} {} {} {}",
+            chosen.amount as u64,
+            (chosen.amount >> 64) as u64,
+            chosen.record.len(),
+            hex(chosen.unlock),
+            hex(chosen.state),
+            hex(chosen.new_args)
+        )
+    }
+
+    #[test]
+    fn answers_of_the_reference() {
+        include_str!("choices.txt").lines().filter(|text| !text.starts_with('#')).for_each(line);
+    }
+
+    #[test]
+    fn entries_are_laid_out_as_the_library_reads_them() {
+        let tlc = SettlementTlc {
+            received: true,
+            algorithm: Algorithm::Sha256,
+            amount: 0x0201,
+            hash: [7; 32],
+            expiry: 0x0403,
+            local_key: [8; KEY],
+            remote_key: [9; KEY],
+        };
+        let bytes = tlc.to_bytes();
+        assert_eq!(bytes[..5], [1, 1, 1, 2, 0]);
+        assert_eq!(bytes[17..51], [&[0][..], &[7; 32], &[3]].concat());
+        assert_eq!(bytes[50..58], [3, 4, 0, 0, 0, 0, 0, 0]);
+        assert_eq!(bytes[58..], [[8; KEY], [9; KEY]].concat());
+        let mut list = vec![];
+        push_tracked(&mut list, &[7; 32], Algorithm::Ckb, &[5; 97]);
+        assert_eq!(list, [&[7; 32][..], &[0], &[5; 97]].concat());
+    }
+}

@@ -1,10 +1,14 @@
-//! `oracle bench`: the reader and the update over C beside the reference's text, in one run.
+//! `oracle bench`: the reader, the update and the choice over C beside the reference's text, in one run.
 //!
 //! The port writes into one lent output and one lent answer buffer, which are not cleared between calls; the Rust
 //! allocates what it hands out and drops it. Batches of both are timed in turn, and medians are taken, so that what
 //! else the machine does falls on both.
 
-use crate::port;
+use crate::document::settlement::{self, Asked};
+use crate::document::{Document, Epoch};
+use crate::kinds::first::case;
+use crate::kinds::settlement::{bytes, lent, since_of, Tlc};
+use crate::port::{self, halves};
 use crate::random::Random;
 use crate::reference::calls;
 use std::hint::black_box;
@@ -144,5 +148,144 @@ pub fn run() -> bool {
         let mean = (ratios.iter().map(|r| r.ln()).sum::<f64>() / ratios.len() as f64).exp();
         println!("{name}: least ratio {least:.1}, geometric mean {mean:.1}");
     }
+    println!();
+    choices();
     true
+}
+
+/// A settlement of `n` TLCs that are all received and expired, the whole delay due. With `matching` each has a pair,
+/// of which the last alone counts, so that every TLC is walked and the last is chosen. Without, no pair has a TLC's
+/// hash, and in a later settlement no settlement TLC has one either: a first settlement ends at our share, a later one
+/// waits.
+fn asked(h: u64, n: usize, is_later: bool, matching: bool) -> Asked {
+    let mut random = Random::of(1, "bench, choice", n as u64);
+    let tlcs: Vec<Tlc> = (0..n)
+        .map(|place| Tlc {
+            received: true,
+            algorithm: (place % 2) as u8,
+            amount: place as u128 + 1,
+            preimage: bytes(&mut random),
+            expiry: 0,
+            local: bytes(&mut random),
+            remote: bytes(&mut random),
+        })
+        .collect();
+    let mut data = lent(&tlcs, [4; 33], [5; 33]);
+    let Document::Value(state) = settlement::first(h, true, &data, usize::MAX) else {
+        unreachable!("at most 254 TLCs");
+    };
+    let records = state[1..state.len() - 72].chunks(65 + h as usize);
+    let (mut tracked, mut preimages) = (vec![], vec![]);
+    for ((place, tlc), record) in tlcs.iter().enumerate().zip(records) {
+        tracked.extend(tlc.hash());
+        tracked.push(tlc.algorithm);
+        tracked.extend(record);
+        preimages.extend(if matching { tlc.hash() } else { bytes(&mut random) });
+        preimages.extend(if place + 1 == n { tlc.preimage } else { bytes(&mut random) });
+    }
+    if is_later && !matching {
+        data.tlcs.chunks_mut(124).for_each(|tlc| tlc[18] ^= 1);
+    }
+    let mut args = vec![0; 57];
+    let epoch = |number| Epoch { number, index: 0, length: 1 };
+    args[20..28].copy_from_slice(&since_of(epoch(3)).to_le_bytes());
+    Asked {
+        h,
+        for_remote: true,
+        args,
+        time: 6000,
+        header: epoch(10),
+        current: epoch(13),
+        data,
+        tracked,
+        preimages,
+        output: 99 + state.len() + 57,
+        witness: is_later.then(|| [vec![0], state].concat()),
+    }
+}
+
+/// Prints a table, or that the library lacks the choice.
+fn choices() {
+    let Some(choose) = port::CHOOSE else {
+        println!("choice: not measured, the library has no fiber_settlement_choose");
+        return;
+    };
+    println!("First and later choice; all TLCs are walked. The Rust's cell and channel data are made in each call, and its");
+    println!("keys are public ones: what deriving them from secret keys takes is not measured.");
+    println!();
+    println!("| settlement | h | TLCs | matching | answer | port | Rust | ratio |");
+    println!("|---|---|---|---|---|---|---|---|");
+    for is_later in [false, true] {
+        for h in [20, 32] {
+            for (n, matching) in
+                [(0, true), (1, true), (1, false), (16, true), (16, false), (254, true), (254, false)]
+            {
+                let asked = asked(h, n, is_later, matching);
+                let prepared = calls::Prepared::new(&case(&asked));
+                let mut out = vec![0; asked.output];
+                let mut answer = [0; port::CHOOSE_ANSWER];
+                let (local, remote) = (halves(asked.data.local_amount), halves(asked.data.remote_amount));
+                let empty = vec![];
+                let mut chooses = |a: &Asked| {
+                    let (witness, data) = (a.witness.as_ref().unwrap_or(&empty), &a.data);
+                    let [header, current] = [a.header, a.current];
+                    // SAFETY: all have the lengths said.
+                    unsafe {
+                        choose(
+                            a.h,
+                            a.for_remote,
+                            is_later,
+                            a.time,
+                            header.number,
+                            header.index,
+                            header.length,
+                            current.number,
+                            current.index,
+                            current.length,
+                            local.0,
+                            local.1,
+                            remote.0,
+                            remote.1,
+                            a.args.as_ptr(),
+                            a.args.len(),
+                            data.tlcs.as_ptr(),
+                            data.tlcs.len(),
+                            data.local_key.as_ptr(),
+                            data.local_key.len(),
+                            data.remote_key.as_ptr(),
+                            data.remote_key.len(),
+                            a.tracked.as_ptr(),
+                            a.tracked.len(),
+                            a.preimages.as_ptr(),
+                            a.preimages.len(),
+                            witness.as_ptr(),
+                            witness.len(),
+                            out.as_mut_ptr(),
+                            out.len(),
+                            answer.as_mut_ptr(),
+                            answer.len(),
+                        )
+                    }
+                };
+                // The same answer first.
+                let (number, what) = match settlement::choice(&asked) {
+                    Document::Value(chosen) if chosen.key.is_none() => (0, "our share".to_string()),
+                    Document::Value(chosen) => (0, format!("TLC {}", chosen.unlock[0])),
+                    Document::Row(row, _) => (row.number, format!("waits ({})", row.number)),
+                };
+                assert_eq!(chooses(&asked), number);
+                assert_eq!(prepared.choose(), number == 0);
+                let (ours, theirs) = measured(
+                    || assert_eq!(chooses(black_box(&asked)), number),
+                    || assert_eq!(black_box(&prepared).choose(), number == 0),
+                );
+                let (settlement, all) =
+                    (if is_later { "later" } else { "first" }, if matching { "all" } else { "none" });
+                println!(
+                    "| {settlement} | {h} | {n} | {all} | {what} | {ours:.0} | {theirs:.0} | {:.1} |",
+                    theirs / ours
+                );
+            }
+        }
+    }
 }

@@ -12,14 +12,14 @@ pub mod chain;
 mod choice;
 mod due;
 mod expiry;
-mod first;
+pub mod first;
 mod hash;
 mod key;
 mod mul;
 mod read;
-mod settlement;
+pub mod settlement;
 mod update;
-mod witness;
+pub mod witness;
 
 /// One operation, on three sides: document 01, the Rust, the port.
 ///
@@ -38,6 +38,10 @@ pub trait Kind {
     const DUMP_LINES: usize;
     /// Does the dump tell document 01's rows, with number and place, those outside the equality among them?
     const DUMP_ROWS: bool = false;
+    /// How many of them at most tell one class of values, or one row.
+    const DUMP_ALIKE: usize = usize::MAX;
+    /// Are its lines in the dump only where all are asked for?
+    const DUMP_LATE: bool = false;
 
     /// Inputs picked by hand, the most telling first.
     fn edges() -> Vec<Self::Input>;
@@ -88,6 +92,7 @@ pub struct Entry {
     pub compare: fn(&Options) -> Tally,
     pub one: fn(u64, u64, bool) -> bool,
     pub dump: fn(u64) -> Vec<String>,
+    pub dump_late: bool,
     pub reached: fn(u64) -> BTreeSet<String>,
 }
 
@@ -99,6 +104,7 @@ const fn entry<K: Kind>() -> Entry {
         compare: run::compare::<K>,
         one: run::one::<K>,
         dump: run::dump::<K>,
+        dump_late: K::DUMP_LATE,
         reached: run::reached::<K>,
     }
 }
@@ -113,6 +119,7 @@ pub const TABLE: &[Entry] = &[
     entry::<read::Reader>(),
     entry::<update::Update>(),
     entry::<chain::Chain>(),
+    entry::<first::Record>(),
     entry::<first::First>(),
     entry::<choice::Choice>(),
 ];

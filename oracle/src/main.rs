@@ -9,6 +9,7 @@ mod random;
 mod reference;
 mod run;
 mod selftest;
+mod settle;
 mod shim;
 
 use kinds::{Entry, TABLE};
@@ -28,8 +29,15 @@ oracle: the text of nervosnetwork/fiber at 21c4dfbdbd, compared with the port ov
       --from CASE     first case (0); cases are numbered, edges first
       --no-port       compares document 01 and the Rust alone
   oracle one KIND SEED CASE [--no-port]   runs one case alone and prints all answers
-  oracle dump [--seed X]               prints a sample of the Rust's answers, in the format told at its top
-  oracle bench                         measures reader and update beside the Rust (a release build)
+  oracle dump [--seed X] [--all]       prints a sample of the Rust's answers, in the format told at its top;
+                                       lines of first and choice are in it with --all alone
+  oracle bench                         measures reader, update and choice beside the Rust (a release build)
+  oracle settle --bin PATH [options]   runs the program `settle` as a process and compares what it prints
+      --rounds N      how many processes (2000)
+      --seconds S     ends after S seconds
+      --seed X        seed of the random inputs (1)
+      --from CASE     first case (0)
+      --case CASE     runs one case alone and prints all answers
   oracle partings                      prints where document 01 and the Rust part, by running the Rust
 
 Exit status: 0 agreed, 1 a case failed, 2 not run (wrong use, or the library lacks an export).
@@ -59,12 +67,14 @@ fn main() {
         ["compare", ref rest @ ..] => compare(rest),
         ["one", kind, seed, case] => one(kind, seed, case, true),
         ["one", kind, seed, case, "--no-port"] => one(kind, seed, case, false),
-        ["dump"] => dump(1),
-        ["dump", "--seed", seed] => dump(number("--seed", seed)),
+        ["dump", ref rest @ ..] => dump(rest),
         ["bench"] => match bench::run() {
             true => 0,
             false => wrong("the library has no reader or no update"),
         },
+        ["settle", ref rest @ ..] => settle(rest),
+        // What the self test runs in the place of `settle`.
+        ["stand-in", fault] => settle::stand_in(fault),
         ["partings"] => {
             partings::print();
             0
@@ -175,12 +185,57 @@ fn one(name: &str, seed: &str, case: &str, port: bool) -> i32 {
     }
 }
 
-fn dump(seed: u64) -> i32 {
-    print!(
-        "{}",
-        DUMP_HEADER.replace("SEED", &seed.to_string()).replace("DIGEST", &selftest::sliced_digest())
-    );
-    for kind in TABLE {
+fn settle(words: &[&str]) -> i32 {
+    let mut options = settle::Options { seed: 1, from: 0, rounds: 2000, seconds: None };
+    let (mut path, mut case) = (None, None);
+    let mut rest = words.iter();
+    while let Some(word) = rest.next() {
+        let mut value = || rest.next().copied().unwrap_or_else(|| wrong(&format!("{word} wants a value")));
+        match *word {
+            "--bin" => path = Some(value()),
+            "--rounds" => options.rounds = number(word, value()),
+            "--seconds" => options.seconds = Some(number(word, value())),
+            "--seed" => options.seed = number(word, value()),
+            "--from" => options.from = number(word, value()),
+            "--case" => case = Some(number(word, value())),
+            other => wrong(&format!("there is no option {other}")),
+        }
+    }
+    let path = path.unwrap_or_else(|| wrong("--bin has to name the program"));
+    let program = match std::fs::canonicalize(path) {
+        Ok(whole) => settle::Program { path: whole, arguments: vec![] },
+        Err(e) => wrong(&format!("there is no program {path} ({e})")),
+    };
+    if let Some(case) = case {
+        return i32::from(!settle::one(&program, options.seed, case));
+    }
+    println!("oracle: {} build, seed {}, cases from {}", build(), options.seed, options.from);
+    let tally = settle::compare(&program, &options, Some(path));
+    print!("{tally}");
+    i32::from(tally.failures > 0)
+}
+
+fn dump(words: &[&str]) -> i32 {
+    let (mut seed, mut all) = (1u64, false);
+    let mut rest = words.iter();
+    while let Some(word) = rest.next() {
+        match *word {
+            "--seed" => seed = number(word, rest.next().unwrap_or_else(|| wrong("--seed wants a number"))),
+            "--all" => all = true,
+            other => wrong(&format!("there is no option {other}")),
+        }
+    }
+    let (command, rows, lines) = match all {
+        true => (format!("{seed} --all"), DUMP_ROWS_LATE, DUMP_LATE),
+        false => (seed.to_string(), DUMP_ROWS, ""),
+    };
+    let header = DUMP_HEADER
+        .replace("SEED", &command)
+        .replace("DIGEST", &selftest::sliced_digest())
+        .replace("ROWS", rows)
+        .replace("LATE", lines);
+    print!("{header}");
+    for kind in TABLE.iter().filter(|kind| all || !kind.dump_late) {
         for line in (kind.dump)(seed) {
             println!("{line}");
         }
@@ -196,9 +251,7 @@ const DUMP_HEADER: &str = "\
 # One case per line: kind, inputs, `=`, answers, parted by single blanks. Lines that begin with # are comments.
 # Numbers are decimal, byte strings lower-case hex, `-` is the empty byte string. The answer `none` is the Rust's
 # None: for `mul` a refusal, whose number the Rust does not tell (7 or 8 in document 01), for `expiry` no expiry.
-# `refused`, in lines of `read` and `update`, is a refusal with number and place from document 01's table: the Rust
-# turns these inputs down too, without number or place; but for 6, 13 and 14, for which it is not asked.
-#
+ROWS#
 #   mul     number index length numerator denominator = number index length, or none
 #   due     header, delay and current, each as number index length = 1 if due, else 0
 #   expiry  since = milliseconds, or none
@@ -207,7 +260,31 @@ const DUMP_HEADER: &str = "\
 #   sha256  message = SHA-256, 32 bytes
 #   read    h witness = n, number of unlocks, places of the share part and the first unlock; or refused number place
 #   update  h witness, length of the output buffer = the state left; or refused number place
-#
+LATE#
 # Left out are other inputs outside the equality of document 01: what cannot be handed to the Rust (fields beyond their
 # bits, keys of other lengths), whole parts above 16777215, a length of 0 in the due test.
+";
+
+/// What the header says of refusals.
+const DUMP_ROWS: &str = "\
+# `refused`, in lines of `read` and `update`, is a refusal with number and place from document 01's table: the Rust
+# turns these inputs down too, without number or place; but for 6, 13 and 14, for which it is not asked.
+";
+
+/// The same with `--all`.
+const DUMP_ROWS_LATE: &str = "\
+# `refused`, in lines of `read`, `update`, `first` and `choice`, is a refusal or a wait (20, 21, 22) with number and place
+# from document 01's table: the Rust turns these inputs down or waits too, without number or place; but for 6, 7, 13 and
+# 14, and 10 of args of 28 to 35 bytes, for which it is not asked.
+";
+
+/// What the header says of the lines that are there with `--all`.
+const DUMP_LATE: &str = "\
+#   first   h for_remote, local amount and remote amount (each low half, high half), settlement TLCs, local key,
+#           remote key, length of the output buffer = the first state; or refused number place
+#   choice  h for_remote is_later time, header and current (each number index length), local amount and remote amount
+#           (each low half, high half), args, settlement TLCs, local key, remote key, tracked list, pairs, witness,
+#           length of the output buffer = kind byte, amount (low half, high half), key kind, key place, delay kind,
+#           delay (number index length), record (place length), place of the pair, unlock, state, new args; or refused
+#           number place. Record and place of the pair are document 01's, as the Rust does not tell them.
 ";

@@ -1,6 +1,9 @@
 //! Where document 01 and the Rust part, shown by running the Rust on the smallest input.
 
+use crate::document::settlement::{Asked, Data};
 use crate::document::{self, settlement, Document, Epoch};
+use crate::port::{self, Reply};
+use crate::random::Random;
 use crate::reference::calls::{self, Case, Choice, OnLiveCell, Rust, Tlc, Update};
 use crate::shim::NotModelled;
 use std::fmt::Display;
@@ -50,7 +53,52 @@ struct Parting {
     input: String,
     document: String,
     rust: String,
+    /// What the port answers, where it is asked here.
+    port: Option<String>,
     note: &'static str,
+}
+
+/// What the port chooses. None where the library has no choice.
+fn here(case: &Case) -> Option<String> {
+    let call = port::CHOOSE?;
+    let (mut tlcs, mut tracked) = (vec![], vec![]);
+    for tlc in &case.tlcs {
+        tlcs.extend([tlc.received, tlc.alg]);
+        tlcs.extend(tlc.amount.to_le_bytes());
+        tlcs.extend(tlc.hash);
+        tlcs.extend(tlc.expiry.to_le_bytes());
+        tlcs.extend([tlc.local, tlc.remote].concat());
+    }
+    for one in &case.tracked {
+        tracked.extend(one.hash);
+        tracked.push(one.alg);
+        tracked.extend(&one.record);
+    }
+    let of_fields = |(number, index, length)| epoch(number, index, length);
+    let asked = Asked {
+        h: case.h.into(),
+        for_remote: case.for_remote,
+        args: case.args.clone(),
+        time: case.time,
+        header: of_fields(case.header),
+        current: of_fields(case.current),
+        data: Data {
+            tlcs,
+            local_amount: case.local_amount,
+            remote_amount: case.remote_amount,
+            local_key: case.local_key.to_vec(),
+            remote_key: case.remote_key.to_vec(),
+        },
+        tracked,
+        preimages: case.preimages.iter().flat_map(|(hash, preimage)| [*hash, *preimage].concat()).collect(),
+        witness: case.witness.clone(),
+        output: 60_000,
+    };
+    Some(match port::choose(&mut Random::of(1, "partings", 0), call, &asked) {
+        Err(fault) => fault,
+        Ok(Reply::Refused { number, place }) => format!("{number} at {place}"),
+        Ok(Reply::Value(chosen)) => format!("chosen, unlock byte {:#04x}", chosen.unlock[0]),
+    })
 }
 
 fn scaled(place: &'static str, e: Epoch, numerator: u64, denominator: u64, note: &'static str) -> Parting {
@@ -59,6 +107,7 @@ fn scaled(place: &'static str, e: Epoch, numerator: u64, denominator: u64, note:
         input: format!("{} by {numerator}/{denominator}", fraction(e)),
         document: said(document::mul(e, numerator, denominator)),
         rust: done(calls::scale(e, numerator, denominator)),
+        port: None,
         note,
     }
 }
@@ -69,6 +118,7 @@ fn due(place: &'static str, h: Epoch, d: Epoch, c: Epoch, note: &'static str) ->
         input: format!("header {}, delay {}, current {}", fraction(h), fraction(d), fraction(c)),
         document: said(document::is_due(h, d, c)),
         rust: done(calls::due(h, d, c)),
+        port: None,
         note,
     }
 }
@@ -103,6 +153,7 @@ fn all() -> Vec<Parting> {
             Rust::Value(expiry) => milliseconds(expiry),
             other => format!("{other:?}"),
         },
+        port: None,
         note: "no parting here: ckb-sdk's `Since` is a shim that follows document 01, so what the daemon does with \
                these bits is not shown",
     });
@@ -142,6 +193,7 @@ fn updates() -> Vec<Parting> {
             Update::Refused | Update::Unread => "turned down, without a number".to_string(),
             Update::Panic => "panics".to_string(),
         },
+        port: None,
         note: "each repeat is subtracted from the count, one record is removed",
     };
     vec![twice(1, &[0, 0]), twice(2, &[0, 0]), twice(2, &[0, 0, 7])]
@@ -187,6 +239,7 @@ fn choices() -> Vec<Parting> {
         input: format!("first settlement, args of {args} bytes, {what}"),
         document: "10 at 0: lock args below 36 bytes".to_string(),
         rust: chosen(&calls::choice(&first_settlement(args, tlcs))),
+        port: here(&first_settlement(args, tlcs)),
         note: "the args are cut at 28 at once, but at 36 only once something is chosen",
     };
     let mut expired = first_settlement(57, 255);
@@ -199,6 +252,7 @@ fn choices() -> Vec<Parting> {
         input: format!("{input}, 255 offered TLCs, of which place 254 alone is expired"),
         document: format!("12 at 0: above 254 {what}"),
         rust: chosen(&calls::choice(case)),
+        port: here(case),
         note: "0xfe is the unlock of the remote share",
     };
     vec![
@@ -220,6 +274,7 @@ fn delays() -> Vec<Parting> {
         input: "args of 57 bytes, epoch value 1: number 1, index 0, length 0; no TLCs".to_string(),
         document: document.to_string(),
         rust: chosen(&calls::choice(case)),
+        port: here(case),
         note: "the text makes an epoch of the value in both; a later settlement does not look at it again",
     };
     vec![
@@ -251,6 +306,7 @@ fn unreadable() -> Vec<Parting> {
                 format!("{taken}: {}", chosen(&choice))
             }
         },
+        port: here(&case(read)),
         note,
     };
     let refused = || said_row(settlement::read(20, &cut));
@@ -301,7 +357,11 @@ pub fn print() {
     );
     for p in all() {
         println!("\n{}\n  input:       {}\n  document 01: {}", p.place, p.input, p.document);
-        println!("  the Rust:    {}\n  note:        {}", p.rust, p.note);
+        println!("  the Rust:    {}", p.rust);
+        if let Some(port) = p.port {
+            println!("  the port:    {port}");
+        }
+        println!("  note:        {}", p.note);
     }
     println!("\nFields beyond 24 or 16 bits and keys of other lengths than 33 cannot be handed to the Rust: RFC 0017");
     println!("gives its epochs no more bits, its keys are typed. Document 01 answers 14 at 0.");

@@ -1,7 +1,7 @@
 //! The port, called over C. Every buffer that it may write lies in a larger one full of random bytes, and every
 //! byte that it may not write is checked.
 
-use crate::document::settlement::Read;
+use crate::document::settlement::{Asked, Chosen, Data, Read};
 use crate::document::Epoch;
 use crate::random::Random;
 
@@ -35,6 +35,15 @@ export!(READ, SettlementRead, "fiber_settlement_read",
     fn fiber_settlement_read(u64, *const u8, usize, *mut u8, usize) -> u64);
 export!(UPDATE, SettlementUpdate, "fiber_settlement_update",
     fn fiber_settlement_update(u64, *const u8, usize, *mut u8, usize, *mut u8, usize) -> u64);
+export!(TLC_WITNESS, TlcWitness, "fiber_test_tlc_witness",
+    fn fiber_test_tlc_witness(u64, bool, *const u8, usize, *mut u8, usize, *mut u8, usize) -> u64);
+export!(DATA_WITNESS, DataWitness, "fiber_test_data_witness",
+    fn fiber_test_data_witness(u64, bool, u64, u64, u64, u64, *const u8, usize, *const u8, usize, *const u8, usize,
+        *mut u8, usize, *mut u8, usize) -> u64);
+export!(CHOOSE, SettlementChoose, "fiber_settlement_choose",
+    fn fiber_settlement_choose(u64, bool, bool, u64, u64, u64, u64, u64, u64, u64, u64, u64, u64, u64,
+        *const u8, usize, *const u8, usize, *const u8, usize, *const u8, usize, *const u8, usize, *const u8, usize,
+        *const u8, usize, *mut u8, usize, *mut u8, usize) -> u64);
 
 /// The port's answer.
 #[derive(Clone, Debug, PartialEq, Eq)]
@@ -227,6 +236,7 @@ pub fn hash(random: &mut Random, call: CkbHash, message: &[u8]) -> Called<[u8; 3
 
 pub const READ_ANSWER: usize = 48;
 pub const UPDATE_ANSWER: usize = 24;
+pub const CHOOSE_ANSWER: usize = 144;
 
 pub fn read(random: &mut Random, call: SettlementRead, h: u64, witness: &[u8]) -> Called<Read> {
     let lent = Lent::holding(random, witness);
@@ -269,34 +279,274 @@ pub fn one_update(
     output: usize,
     answer: usize,
 ) -> Result<Option<Reply<Vec<u8>>>, String> {
-    let lent = Lent::holding(random, witness);
+    written(random, [witness], output, answer, |[lent], out, out_len, said, said_len| {
+        // SAFETY: witness, output and buffer have the lengths said.
+        unsafe { call(h, lent.0, lent.1, out, out_len, said, said_len) }
+    })
+}
+
+/// The record of one settlement TLC.
+pub fn tlc_witness(
+    random: &mut Random,
+    call: TlcWitness,
+    h: u64,
+    for_remote: bool,
+    tlc: &[u8],
+    output: usize,
+) -> Called<Vec<u8>> {
+    written_at_times_short(random, [tlc], output, |[tlc], out, out_len, said, said_len| {
+        // SAFETY: TLC, output and buffer have the lengths said.
+        unsafe { call(h, for_remote, tlc.0, tlc.1, out, out_len, said, said_len) }
+    })
+}
+
+/// Low and high half of an amount.
+pub fn halves(amount: u128) -> (u64, u64) {
+    (amount as u64, (amount >> 64) as u64)
+}
+
+/// The first state.
+pub fn data_witness(
+    random: &mut Random,
+    call: DataWitness,
+    h: u64,
+    for_remote: bool,
+    data: &Data,
+    output: usize,
+) -> Called<Vec<u8>> {
+    let (local, remote) = (halves(data.local_amount), halves(data.remote_amount));
+    let lists = [&data.tlcs[..], &data.local_key, &data.remote_key];
+    written_at_times_short(random, lists, output, |[tlcs, ours, theirs], out, out_len, said, said_len| {
+        // SAFETY: list, keys, output and buffer have the lengths said.
+        unsafe {
+            call(
+                h, for_remote, local.0, local.1, remote.0, remote.1, tlcs.0, tlcs.1, ours.0, ours.1,
+                theirs.0, theirs.1, out, out_len, said, said_len,
+            )
+        }
+    })
+}
+
+/// Bytes lent to be read: where they are, and how many.
+pub type Given = (*const u8, usize);
+
+/// `written` with an answer buffer that is long enough, and at times with shorter ones before.
+fn written_at_times_short<const N: usize>(
+    random: &mut Random,
+    lists: [&[u8]; N],
+    output: usize,
+    call: impl Fn([Given; N], *mut u8, usize, *mut u8, usize) -> u64,
+) -> Called<Vec<u8>> {
+    for length in shorter(random, UPDATE_ANSWER) {
+        written(random, lists, output, length, &call)?;
+    }
+    let length = enough(random, UPDATE_ANSWER);
+    let reply = written(random, lists, output, length, &call)?;
+    Ok(reply.expect("the buffer is long enough"))
+}
+
+/// One call that reads `lists`, writes to the front of an output of `output` bytes and tells the length written, as the
+/// update does. None: 14 by the return value alone.
+fn written<const N: usize>(
+    random: &mut Random,
+    lists: [&[u8]; N],
+    output: usize,
+    answer: usize,
+    call: impl Fn([Given; N], *mut u8, usize, *mut u8, usize) -> u64,
+) -> Result<Option<Reply<Vec<u8>>>, String> {
+    let done = called(random, lists, output, answer, UPDATE_ANSWER, call)?;
+    let Some((reply, out)) = done else {
+        return Ok(None);
+    };
+    let said = match reply {
+        Reply::Refused { number, place } => return Ok(Some(Reply::Refused { number, place })),
+        Reply::Value(said) => said,
+    };
+    let length = u64_at(&said, 16);
+    if length > output as u64 {
+        return Err(format!("success with {length} bytes written in {output}"));
+    }
+    out.only(length as usize)?;
+    Ok(Some(Reply::Value(out.written(length as usize).to_vec())))
+}
+
+/// One call with an output and an answer buffer, of which `size` bytes are wanted. None: 14 by the return value alone.
+/// On success the answer's bytes, and the output, whose bytes are still to be looked at.
+fn called<const N: usize>(
+    random: &mut Random,
+    lists: [&[u8]; N],
+    output: usize,
+    answer: usize,
+    size: usize,
+    call: impl Fn([Given; N], *mut u8, usize, *mut u8, usize) -> u64,
+) -> Result<Option<(Reply<Vec<u8>>, Lent)>, String> {
+    let lent = lists.map(|list| Lent::holding(random, list));
     let mut out = Lent::new(random, output);
     let mut said = Lent::new(random, answer);
-    // SAFETY: witness, output and buffer have the lengths said.
-    let number =
-        unsafe { call(h, lent.reading(), witness.len(), out.pointer(), output, said.pointer(), answer) };
-    lent.only(0)?;
-    if answer < UPDATE_ANSWER {
+    let given = std::array::from_fn(|i| (lent[i].reading(), lists[i].len()));
+    let number = call(given, out.pointer(), output, said.pointer(), answer);
+    lent.iter().try_for_each(|list| list.only(0))?;
+    if answer < size {
         out.only(0)?;
         said.only(0)?;
         return has_to_be_14(number, answer).map(|()| None);
     }
-    said.only(if number == 0 { UPDATE_ANSWER } else { 16 })?;
-    let field = |at| u64_at(said.written(UPDATE_ANSWER), at);
-    let (told, place) = (field(0), field(8));
+    said.only(if number == 0 { size } else { 16 })?;
+    let (told, place) = (u64_at(said.written(size), 0), u64_at(said.written(size), 8));
     if told != number {
         return Err(format!("the return value is {number}, the number in the buffer {told}"));
     }
     if number != 0 {
         out.only(0)?;
-        return Ok(Some(Reply::Refused { number, place }));
+        return Ok(Some((Reply::Refused { number, place }, out)));
     }
-    let length = field(16);
-    if place != 0 || length > output as u64 {
-        return Err(format!("success with place {place} and a state of {length} bytes in {output}"));
+    if place != 0 {
+        return Err(format!("success with place {place}"));
     }
-    out.only(length as usize)?;
-    Ok(Some(Reply::Value(out.written(length as usize).to_vec())))
+    Ok(Some((Reply::Value(said.written(size).to_vec()), out)))
+}
+
+/// The choice.
+pub fn choose(random: &mut Random, call: SettlementChoose, asked: &Asked) -> Called<Chosen> {
+    for length in shorter(random, CHOOSE_ANSWER) {
+        one_choice(random, call, asked, length)?;
+    }
+    let length = enough(random, CHOOSE_ANSWER);
+    let reply = one_choice(random, call, asked, length)?;
+    Ok(reply.expect("the buffer is long enough"))
+}
+
+/// One call of the choice with an answer buffer of this length. None: 14 by the return value alone.
+fn one_choice(
+    random: &mut Random,
+    call: SettlementChoose,
+    asked: &Asked,
+    answer: usize,
+) -> Result<Option<Reply<Chosen>>, String> {
+    let Asked { h, for_remote, time, header, current, data, .. } = asked;
+    let (local, remote) = (halves(data.local_amount), halves(data.remote_amount));
+    // In a first settlement a witness is not looked at, whatever is lent.
+    let mut any = vec![0; random.pick(&[0, 0, 1, 2, 74, 200])];
+    random.fill(&mut any);
+    let is_later = asked.witness.is_some();
+    let witness = asked.witness.as_ref().unwrap_or(&any);
+    let lists = [
+        &asked.args[..],
+        &data.tlcs,
+        &data.local_key,
+        &data.remote_key,
+        &asked.tracked,
+        &asked.preimages,
+        witness,
+    ];
+    let done =
+        called(random, lists, asked.output, answer, CHOOSE_ANSWER, |given, out, out_len, said, said_len| {
+            let [args, tlcs, ours, theirs, tracked, preimages, witness] = given;
+            // SAFETY: all lists, output and buffer have the lengths said.
+            unsafe {
+                call(
+                    *h,
+                    *for_remote,
+                    is_later,
+                    *time,
+                    header.number,
+                    header.index,
+                    header.length,
+                    current.number,
+                    current.index,
+                    current.length,
+                    local.0,
+                    local.1,
+                    remote.0,
+                    remote.1,
+                    args.0,
+                    args.1,
+                    tlcs.0,
+                    tlcs.1,
+                    ours.0,
+                    ours.1,
+                    theirs.0,
+                    theirs.1,
+                    tracked.0,
+                    tracked.1,
+                    preimages.0,
+                    preimages.1,
+                    witness.0,
+                    witness.1,
+                    out,
+                    out_len,
+                    said,
+                    said_len,
+                )
+            }
+        })?;
+    match done {
+        None => Ok(None),
+        Some((Reply::Refused { number, place }, _)) => Ok(Some(Reply::Refused { number, place })),
+        Some((Reply::Value(said), out)) => {
+            let slice = if is_later { witness } else { &asked.tracked };
+            chosen(asked, slice, &said, &out).map(|chosen| Some(Reply::Value(chosen)))
+        }
+    }
+}
+
+/// The choice's answer of 144 bytes and its output, whose fields have to fit each other. `slice` is what the record is
+/// a part of.
+fn chosen(asked: &Asked, slice: &[u8], said: &[u8], out: &Lent) -> Result<Chosen, String> {
+    let field = |at| u64_at(said, at);
+    let holds = |holds: bool, what: &str| match holds {
+        true => Ok(()),
+        false => {
+            let fields: Vec<u64> = (16..CHOOSE_ANSWER).step_by(8).map(field).collect();
+            Err(format!("{what}; the answer's fields from byte 16 on are {fields:?}"))
+        }
+    };
+    let lengths = [field(112), field(120), field(128)];
+    let all = lengths.iter().try_fold(0u64, |sum, length| sum.checked_add(*length));
+    let all = all.filter(|all| *all <= asked.output as u64);
+    holds(all.is_some(), "the parts of the output are longer than it")?;
+    let all = all.map_or(0, |all| all as usize);
+    out.only(all)?;
+    let [unlock, state] = [lengths[0] as usize, (lengths[0] + lengths[1]) as usize];
+    let (unlock, rest) = (&out.written(all)[..unlock], &out.written(all)[unlock..]);
+    let (state, new_args) = rest.split_at(state - unlock.len());
+
+    let (kind, byte) = (field(16), field(24));
+    holds(kind <= 2, "the kind is none of three")?;
+    holds(unlock.len() >= 2, "there is no unlock")?;
+    holds(u64::from(unlock[0]) == byte, "the unlock's byte is not that of the answer")?;
+    let as_kind = if byte >= 0xfe { 0 } else { 1 + u64::from(unlock[1]) };
+    holds(as_kind == kind, "the unlock is of another kind than the answer says")?;
+    holds(field(48) <= 1 && field(64) <= 1, "the kind of a key or a delay is none of two")?;
+    holds(field(48) == 1 || field(56) == 0, "the settlement key with a place")?;
+    holds((field(48) == 1) == (kind > 0), "a share with a TLC's key, or a TLC with the settlement key")?;
+    let delay = Epoch { number: field(72), index: field(80), length: field(88) };
+    holds(
+        field(64) == 1 || delay == Epoch { number: 0, index: 0, length: 0 },
+        "no delay, but numbers in its place",
+    )?;
+    holds(kind == 2 || field(136) == 0, "the place of a pair where no preimage is wanted")?;
+    let record = (field(96), field(104));
+    if kind == 0 {
+        holds(record == (0, 0), "a record beside a share")?;
+    } else {
+        let size = 65 + asked.h as usize;
+        let end = record.0.checked_add(record.1).filter(|end| *end <= slice.len() as u64);
+        holds(end.is_some(), "the record is beyond its slice")?;
+        let part = &slice[record.0 as usize..(record.0 + record.1) as usize];
+        let at = 1 + byte as usize * size;
+        holds(state.get(at..at + size) == Some(part), "the record is not that of the TLC chosen")?;
+    }
+    Ok(Chosen {
+        unlock: unlock.to_vec(),
+        state: state.to_vec(),
+        new_args: new_args.to_vec(),
+        amount: u128::from(field(40)) << 64 | u128::from(field(32)),
+        key: (field(48) == 1).then_some(field(56) as usize),
+        delay: (field(64) == 1).then_some(delay),
+        record: (record.0 as usize, record.1 as usize),
+        pair: field(136) as usize,
+    })
 }
 
 fn truth(number: u64) -> Result<bool, String> {

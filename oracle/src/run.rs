@@ -5,7 +5,7 @@ use crate::kinds::Kind;
 use crate::port::{Called, Reply};
 use crate::random::Random;
 use crate::reference::calls::{self, Rust};
-use std::collections::{BTreeMap, BTreeSet, HashSet};
+use std::collections::{BTreeMap, BTreeSet, HashMap, HashSet};
 use std::fmt;
 use std::time::{Duration, Instant};
 
@@ -83,6 +83,16 @@ impl fmt::Display for Tally {
         }
         if waits > 0 {
             writeln!(f, "    both wait: {waits} ({waits_text})")?;
+        }
+        if waits > 0 {
+            // A kind that waits has most rows: each of them in one line, whatever it is in the Rust.
+            let mut numbers: BTreeMap<u64, u64> = BTreeMap::new();
+            for ((_, number, _), count) in &self.rows {
+                *numbers.entry(*number).or_default() += count;
+            }
+            let numbers: Vec<String> =
+                numbers.iter().map(|(number, count)| format!("{number}: {count}")).collect();
+            writeln!(f, "  rows reached, number and count: {}", numbers.join("; "))?;
         }
         if alone > 0 {
             writeln!(f, "  compared with document 01 alone: {alone} ({alone_text})")?;
@@ -209,15 +219,20 @@ impl<V: PartialEq> Answers<V> {
     }
 }
 
+/// The class of a value, or the number of a row.
+fn class<K: Kind>(input: &K::Input, document: &Document<K::Value>) -> String {
+    match document {
+        Document::Value(value) => K::class(input, value).to_string(),
+        Document::Row(row, _) => row.number.to_string(),
+    }
+}
+
 /// The numbers and classes that document 01 answers in the first cases.
 pub fn reached<K: Kind>(cases: u64) -> BTreeSet<String> {
     let edges = K::edges();
     let answer = |case| {
         let input = input::<K>(&edges, 1, case);
-        match K::document(&input) {
-            Document::Value(value) => K::class(&input, &value).to_string(),
-            Document::Row(row, _) => row.number.to_string(),
-        }
+        class::<K>(&input, &K::document(&input))
     };
     (0..cases).map(answer).collect()
 }
@@ -286,25 +301,36 @@ pub fn one<K: Kind>(seed: u64, case: u64, port: bool) -> bool {
 pub fn dump<K: Kind>(seed: u64) -> Vec<String> {
     let random = (0..).map(|case| K::random_for_dump(&mut Random::of(seed, K::NAME, case)));
     let mut seen = HashSet::new();
+    let mut alike: HashMap<String, usize> = HashMap::new();
     K::edges_for_dump()
         .into_iter()
         .chain(random)
         .filter_map(|input| {
             let document = K::document(&input);
+            let class = class::<K>(&input, &document);
             let asked = document.inside() && !K::not_shown(&input);
             let rust = asked.then(|| calls::caught(|| K::rust(&input)));
             let answer = match (rust, document) {
                 (None | Some(Rust::TurnedDown), Document::Row(row, place)) if K::DUMP_ROWS => {
                     format!("refused {} {place}", row.number)
                 }
+                (Some(Rust::Wait(number)), Document::Row(row, place))
+                    if K::DUMP_ROWS && number == row.number =>
+                {
+                    format!("refused {number} {place}")
+                }
                 (Some(Rust::Value(value)), _) => K::show_value(&value),
                 (Some(Rust::TurnedDown), _) => "none".to_string(),
-                (Some(Rust::Wait(number)), _) => format!("wait {number}"),
-                (None | Some(Rust::Panicked(_) | Rust::NotModelled(_)), _) => return None,
+                (None | Some(Rust::Wait(_) | Rust::Panicked(_) | Rust::NotModelled(_)), _) => return None,
             };
-            Some(format!("{} {} = {answer}", K::NAME, K::show_input(&input)))
+            let line = format!("{} {} = {answer}", K::NAME, K::show_input(&input));
+            if !seen.insert(line.clone()) {
+                return None;
+            }
+            let so_far = alike.entry(class).or_default();
+            *so_far += 1;
+            (*so_far <= K::DUMP_ALIKE).then_some(line)
         })
-        .filter(|line| seen.insert(line.clone()))
         .take(K::DUMP_LINES)
         .collect()
 }

@@ -3,12 +3,16 @@
 
 use crate::document::settlement::{self, Asked, Data};
 use crate::document::{self, Document, Epoch};
+use crate::kinds::settlement::consistent;
 use crate::kinds::{chain, TABLE};
-use crate::port;
+use crate::port::{self, Reply};
 use crate::random::Random;
 use crate::reference::calls::{self, Rust, Update};
+use crate::settle;
 use crate::shim::hex;
 use num_bigint::BigUint;
+use std::cell::Cell;
+use std::slice::{from_raw_parts, from_raw_parts_mut};
 
 /// SHA-256 of the sliced text at commit 21c4dfbdbd.
 pub const SLICED_DIGEST: &str = "ea9fc73cd66b76129e6bf9cab186d3ccafa2d9c484c2432740cde451b842f293";
@@ -33,11 +37,13 @@ pub fn run() {
     document_in_big_numbers();
     generator();
     lent_buffers();
+    lent_choice();
     update_example();
     choice_example();
     order_of_rows();
     reached();
     runs_of_updates();
+    processes();
     println!("selftest: all passed, {} build", crate::build());
 }
 
@@ -225,6 +231,163 @@ fn lent_buffers() {
     println!("lent buffers: seven faults of a callee are noticed");
 }
 
+thread_local!(static FAULT: Cell<&'static str> = const { Cell::new("none") });
+
+/// Document 01's choice behind the port's interface, right or with a fault.
+///
+/// # Safety
+///
+/// All pointers have to be those of `port::Lent` and the lengths theirs.
+#[allow(clippy::too_many_arguments)]
+unsafe extern "C" fn choice_over_c(
+    h: u64,
+    for_remote: bool,
+    is_later: bool,
+    time: u64,
+    header_number: u64,
+    header_index: u64,
+    header_length: u64,
+    current_number: u64,
+    current_index: u64,
+    current_length: u64,
+    local_low: u64,
+    local_high: u64,
+    remote_low: u64,
+    remote_high: u64,
+    args: *const u8,
+    args_len: usize,
+    tlcs: *const u8,
+    tlcs_len: usize,
+    local_key: *const u8,
+    local_key_len: usize,
+    remote_key: *const u8,
+    remote_key_len: usize,
+    tracked: *const u8,
+    tracked_len: usize,
+    preimages: *const u8,
+    preimages_len: usize,
+    witness: *const u8,
+    witness_len: usize,
+    out: *mut u8,
+    out_len: usize,
+    answer: *mut u8,
+    answer_len: usize,
+) -> u64 {
+    let fault = FAULT.get();
+    if answer_len < port::CHOOSE_ANSWER && fault != "a short answer buffer is not looked at" {
+        return 14;
+    }
+    let bytes = |from: *const u8, length: usize| from_raw_parts(from, length).to_vec();
+    let amount = |low: u64, high: u64| u128::from(high) << 64 | u128::from(low);
+    let chosen = settlement::choice(&Asked {
+        h,
+        for_remote,
+        args: bytes(args, args_len),
+        time,
+        header: epoch(header_number, header_index, header_length),
+        current: epoch(current_number, current_index, current_length),
+        data: Data {
+            tlcs: bytes(tlcs, tlcs_len),
+            local_amount: amount(local_low, local_high),
+            remote_amount: amount(remote_low, remote_high),
+            local_key: bytes(local_key, local_key_len),
+            remote_key: bytes(remote_key, remote_key_len),
+        },
+        tracked: bytes(tracked, tracked_len),
+        preimages: bytes(preimages, preimages_len),
+        witness: is_later.then(|| bytes(witness, witness_len)),
+        output: out_len,
+    });
+    let (number, fields, mut written) = match chosen {
+        Document::Row(row, place) => (row.number, vec![row.number, place], vec![]),
+        Document::Value(c) => {
+            let byte = c.unlock[0];
+            let kind = if byte >= 0xfe { 0 } else { 1 + c.unlock[1] };
+            let delay = c.delay.unwrap_or(epoch(0, 0, 0));
+            let (low, high) = port::halves(c.amount);
+            let key = [u64::from(c.key.is_some()), c.key.unwrap_or(0) as u64];
+            let delay = [u64::from(c.delay.is_some()), delay.number, delay.index, delay.length];
+            let record = [c.record.0 as u64, c.record.1 as u64];
+            let lengths = [&c.unlock, &c.state, &c.new_args].map(|part| part.len() as u64);
+            let front = [0, 0, u64::from(kind), u64::from(byte), low, high];
+            let fields = [&front[..], &key, &delay, &record, &lengths, &[c.pair as u64]].concat();
+            (0, fields, [c.unlock, c.state, c.new_args].concat())
+        }
+    };
+    let mut fields = fields;
+    let success = number == 0;
+    match fault {
+        "a success with a place" if success => fields[1] = 1,
+        "another kind" if success => fields[2] = (fields[2] + 1) % 3,
+        "another byte" if success => fields[3] ^= 1,
+        "half an amount" if success => fields[5] = 0,
+        "another key" if success => fields[7] += 1,
+        "another delay" if success => fields[9] += 1,
+        "a record that starts a byte late" if success => fields[12] += 1,
+        "a record that is a byte short" if success => fields[13] = fields[13].saturating_sub(1),
+        "a state a byte short" if success => {
+            fields[15] -= 1;
+            fields[16] += 1;
+        }
+        "another pair" if success => fields[17] += 1,
+        "a byte of the unlock" if success => written[66] = 1,
+        "a byte behind the output" if success && written.len() < out_len => *out.add(written.len()) ^= 1,
+        "a byte before the output" => *out.sub(1) ^= 1,
+        "a refusal that writes to the output" if !success && out_len > 0 => *out ^= 1,
+        "a refusal that writes a third field" if !success => fields.push(0),
+        "two numbers" if !success => fields[0] += 1,
+        "another place" if !success => fields[1] += 1,
+        _ => {}
+    }
+    from_raw_parts_mut(out, written.len()).copy_from_slice(&written);
+    let fields: Vec<u8> = fields.iter().flat_map(|field| field.to_le_bytes()).collect();
+    answer.copy_from(fields.as_ptr(), fields.len().min(answer_len + 8));
+    number
+}
+
+/// What is looked at in a call of the choice.
+fn lent_choice() {
+    const FAULTS: &[&str] = &[
+        "a short answer buffer is not looked at",
+        "a success with a place",
+        "another kind",
+        "another byte",
+        "half an amount",
+        "another key",
+        "another delay",
+        "a record that starts a byte late",
+        "a record that is a byte short",
+        "a state a byte short",
+        "another pair",
+        "a byte of the unlock",
+        "a byte behind the output",
+        "a byte before the output",
+        "a refusal that writes to the output",
+        "a refusal that writes a third field",
+        "two numbers",
+        "another place",
+    ];
+    let agrees = |case: u64| {
+        let mut random = Random::of(1, "lent choice", case);
+        let mut asked = consistent(&mut random);
+        asked.output = 1000;
+        match (port::choose(&mut random, choice_over_c, &asked), settlement::choice(&asked)) {
+            (Ok(Reply::Value(port)), Document::Value(document)) => port == document,
+            (Ok(Reply::Refused { number, place }), Document::Row(row, at)) => {
+                (number, place) == (row.number, at)
+            }
+            _ => false,
+        }
+    };
+    assert!((0..500).all(agrees), "choice over C: a right one fails");
+    for fault in FAULTS {
+        FAULT.set(fault);
+        assert!(!(0..500).all(agrees), "choice over C: not noticed: {fault}");
+    }
+    FAULT.set("none");
+    println!("choice over C: {} faults of a callee are noticed", FAULTS.len());
+}
+
 /// Document 01's example for `settle`.
 fn update_example() {
     let mut witness = vec![1, 0];
@@ -374,4 +537,24 @@ fn runs_of_updates() {
     let unnoticed = chain::unnoticed();
     assert!(unnoticed.is_empty(), "chain: not noticed: {}", unnoticed.join(", "));
     println!("chain: every answer is reached, {} faults are noticed", chain::FAULTS.len());
+}
+
+/// The inputs of `settle` reach every row that it can print; this program in its place passes, and with a fault fails.
+fn processes() {
+    let reached = settle::reached(2000);
+    for one in ["1", "2", "3", "4", "5", "6", "14", "no TLCs", "one TLC", "2 to 252 TLCs", "253 to 255 TLCs"]
+    {
+        assert!(reached.iter().any(|r| r == one), "settle: `{one}` is not reached");
+    }
+    let failures = |fault: &str| {
+        let path = std::env::current_exe().expect("this program has a path");
+        let program = settle::Program { path, arguments: vec!["stand-in".to_string(), fault.to_string()] };
+        let options = settle::Options { seed: 1, from: 0, rounds: settle::edge_count() + 50, seconds: None };
+        settle::compare(&program, &options, None).failures
+    };
+    assert_eq!(failures("none"), 0, "settle: a right program fails");
+    for fault in settle::FAULTS {
+        assert!(failures(fault) > 0, "settle: not noticed: {fault}");
+    }
+    println!("settle: every row is reached, {} faults of a program are noticed", settle::FAULTS.len());
 }

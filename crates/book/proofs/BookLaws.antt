@@ -25,7 +25,7 @@ use Rattle.watchtower.proofs.LeftLaws.{take-sets}
 use Rattle.watchtower.specs.Witness.{member, places, unlessCut, readUnlocks, readWitness}
 use Rattle.watchtower.specs.Update.{Taken, none, Judged, judge, keep, shareLeft, standing, stateLeft, afterVerdict, afterJudged, afterRead, updated}
 use Rattle.settlement_c.specs.Answers.{told, call}
-use Rattle.settlement_c.specs.Settlement.{OutCall, saidWritten, outCall, updateCall}
+use Rattle.settlement_c.specs.Settlement.{OutCall, saidWritten, outCall, writtenCall, updateCall}
 use Rattle.book.specs.Book.{tlcAmount, shareAmount, Slot, Book, unpaid, bytesOf, stateOf, Ran, ran, fault, payLocal, payRemote, payTlc, slotAt, run, back, refused, Entry, unmoved, closed, afterRun, opened, witnessOf, enter, Payment, payments}
 use Rattle.book.specs.Demand3.{Lent, exported, kept, fed, seen, bytesAt, total}
 use Rattle.book.proofs.StateLaws.{Sound, state-length, w-tlcs, w-remote, w-local, read-sound, even-keep, keep-few}
@@ -356,7 +356,7 @@ module _ (h : ℕ) (b : Book) (ok : SoundBook h b) (c : Lent) (firsts : List ℕ
 
   -- each call of the channel follows the book
   pub turn : (c .h ≡ h) ⊎ (known (c .h) ≡ false) → Turn b c (judged b c) sum (exported (stateOf b) c) (enter b (fed c))
-  unfolding exported updateCall outCall call enter seen
+  unfolding exported updateCall writtenCall outCall call enter seen
   turn of = go (ltb (length (c .answer)) 24) refl of
     where
       go : (t : Bool) → ltb (length (c .answer)) 24 ≡ t → (c .h ≡ h) ⊎ (known (c .h) ≡ false) → Turn b c (judged b c) sum (exported (stateOf b) c) (enter b (fed c))

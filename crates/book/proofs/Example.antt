@@ -10,7 +10,7 @@ use Rattle.fiber_types.specs.Records.{outcome, known}
 use Rattle.watchtower.specs.Witness.{records, flat, stateBytes, member, placesWithin, places, unlessCut, readUnlocks, readShares, readTlcs, readWitness}
 use Rattle.watchtower.specs.Update.{judge, keep, shareLeft, standing, stateLeft, afterVerdict, afterJudged, afterRead, updated}
 use Rattle.settlement_c.specs.Answers.{told, call}
-use Rattle.settlement_c.specs.Settlement.{saidWritten, outCall, updateCall}
+use Rattle.settlement_c.specs.Settlement.{saidWritten, outCall, writtenCall, updateCall}
 use Rattle.book.specs.Book.{tlcAmount, shareAmount, tlcsIn, remoteIn, localIn, Payment, remoteShare, localShare, tlc, payments}
 use Rattle.book.specs.Demand3.{Lent, exported, kept, accepted, bytesAt, unlocksOf, settles, remain, firstsLeft, paid, placesFrom, allPaid, allLeft}
 
@@ -39,5 +39,5 @@ example : allPaid 20 first calls
     ≡ record { to = tlc 0; amount = 5 }
     ∷ (record { to = localShare; amount = 9 }
     ∷ (record { to = tlc 1; amount = 6 } ∷ (record { to = localShare; amount = 0 } ∷ (record { to = remoteShare; amount = 7 } ∷ []))))
-unfolding tlcOf shareOf unlock first callWith calls le leBytes outcome known records flat stateBytes member placesWithin places unlessCut readUnlocks readShares readTlcs readWitness judge keep shareLeft standing stateLeft afterVerdict afterJudged afterRead updated told call saidWritten outCall updateCall tlcAmount shareAmount tlcsIn remoteIn localIn payments exported kept accepted bytesAt unlocksOf settles remain paid placesFrom
+unfolding tlcOf shareOf unlock first callWith calls le leBytes outcome known records flat stateBytes member placesWithin places unlessCut readUnlocks readShares readTlcs readWitness judge keep shareLeft standing stateLeft afterVerdict afterJudged afterRead updated told call saidWritten outCall updateCall writtenCall tlcAmount shareAmount tlcsIn remoteIn localIn payments exported kept accepted bytesAt unlocksOf settles remain paid placesFrom
 example = refl

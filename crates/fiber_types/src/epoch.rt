@@ -40,7 +40,7 @@ pub fn from_full_value(value: u64) -> Epoch
     }
 }
 
-fn within_bits(e: Epoch) -> bool
+pub fn within_bits(e: Epoch) -> bool
     ensures { λ r. ⌜ r ≡ S.withinBits e ⌝ }
 {
     if 0x100_0000 <= e.number {

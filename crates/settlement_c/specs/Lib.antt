@@ -1,3 +1,4 @@
 -- What the C interface's operations mean.
 pub mod Answers
 pub mod Settlement
+pub mod Choose

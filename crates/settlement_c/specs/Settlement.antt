@@ -7,6 +7,7 @@ use lib.Dec.{ltb}
 use Rattle.fiber_bytes.specs.Bytes.{leBytes}
 use Rattle.fiber_types.specs.declared.answer.Written.{Written}
 use Rattle.fiber_types.specs.declared.answer.Written.the-variants as written·
+use Rattle.fiber_types.specs.Records.{Outcome}
 use Rattle.watchtower.specs.declared.witness.WitnessRead.{WitnessRead}
 use Rattle.watchtower.specs.declared.witness.WitnessRead.the-variants as read·
 use Rattle.watchtower.specs.Update.{updated}
@@ -34,9 +35,10 @@ pub record OutCall : Type 0 where
 unfoldable pub outCall : Call → List ℕ → OutCall
 outCall c out = record { status = c .status; out = out; answer = c .answer }
 
--- an update; a short answer buffer is 14 before anything is looked at
+-- a writer; a short answer buffer is 14 before anything is looked at
+unfoldable pub writtenCall : Outcome → List ℕ → List ℕ → OutCall
+writtenCall o out answer =
+    outCall (call updateAnswerLen (saidWritten (o .answer)) answer) (cond (ltb (length answer) updateAnswerLen) out (o .bytes))
+
 unfoldable pub updateCall : ℕ → List ℕ → List ℕ → List ℕ → OutCall
-updateCall h w out answer =
-    outCall
-    (call updateAnswerLen (saidWritten (updated h w out .answer)) answer)
-    (cond (ltb (length answer) updateAnswerLen) out (updated h w out .bytes))
+updateCall h w out answer = writtenCall (updated h w out) out answer

@@ -1,5 +1,7 @@
-// The C interface: the settlement operations (settlement.rt), and below them exports for tests and benchmarks alone, under
+// The C interface: the settlement operations (settlement.rt, choose.rt), and in first.rt and below exports for tests and benchmarks alone, under
 // names that say so.
+pub mod choose;
+pub mod first;
 pub mod settlement;
 
 use fiber_bytes::put;

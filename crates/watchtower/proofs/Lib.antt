@@ -2,4 +2,10 @@
 pub mod WitnessLaws
 pub mod UpdateLaws
 pub mod LeftLaws
+pub mod LentLaws
+pub mod LaterLaws
+pub mod HandedLaws
+pub mod FirstLaws
+pub mod InitialLaws
+pub mod ChoiceLaws
 mod EdgesHold

@@ -3,3 +3,7 @@ pub mod Witness
 pub mod Update
 pub mod Marks
 pub mod Edges
+pub mod Lent
+pub mod First
+pub mod Choice
+pub mod Plan

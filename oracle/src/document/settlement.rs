@@ -84,6 +84,8 @@ struct Share {
 #[derive(Clone)]
 struct State {
     tlcs: Vec<Vec<u8>>,
+    /// Where each record lies: in the witness, or in a first settlement in the tracked list.
+    places: Vec<usize>,
     remote: Share,
     local: Share,
 }
@@ -138,7 +140,8 @@ fn parts(h: usize, witness: &[u8]) -> Answer<Parts> {
     }
     let share =
         |at: usize| Share { key: witness[at..at + 20].to_vec(), amount: number(&witness[at + 20..at + 36]) };
-    let state = State { tlcs, remote: share(shares), local: share(shares + 36) };
+    let places = (0..n).map(|k| 2 + k * size).collect();
+    let state = State { tlcs, places, remote: share(shares), local: share(shares + 36) };
     let mut unlocks = vec![];
     let mut at = shares + 72;
     while at < witness.len() {
@@ -207,8 +210,8 @@ fn updated(parts: Parts) -> Answer<State> {
             _ => settled[place] = true,
         }
     }
-    let tlcs = state.tlcs.into_iter().zip(settled);
-    state.tlcs = tlcs.filter(|(_, settled)| !settled).map(|(tlc, _)| tlc).collect();
+    let all = state.tlcs.into_iter().zip(state.places).zip(settled);
+    (state.tlcs, state.places) = all.filter(|(_, settled)| !settled).map(|(standing, _)| standing).unzip();
     Ok(state)
 }
 
@@ -332,12 +335,22 @@ fn first_record(h: usize, for_remote: bool, tlc: &Tlc) -> Vec<u8> {
 fn first_state(h: usize, for_remote: bool, data: &Data) -> State {
     let local = Share { key: hash_of_key(&data.local_key), amount: data.local_amount };
     let remote = Share { key: hash_of_key(&data.remote_key), amount: data.remote_amount };
-    let tlcs = data.list().iter().map(|tlc| first_record(h, for_remote, tlc)).collect();
-    if for_remote {
-        State { tlcs, remote, local }
-    } else {
-        State { tlcs, remote: local, local: remote }
-    }
+    let tlcs: Vec<Vec<u8>> = data.list().iter().map(|tlc| first_record(h, for_remote, tlc)).collect();
+    let places = (0..tlcs.len()).map(|k| k * (98 + h) + 33).collect();
+    let (remote, local) = if for_remote { (remote, local) } else { (local, remote) };
+    State { tlcs, places, remote, local }
+}
+
+/// The record of one settlement TLC.
+pub fn tlc_witness(h: u64, for_remote: bool, entry: &[u8], output: usize) -> Document<Vec<u8>> {
+    let answer = || {
+        let h = hash_length(h)?;
+        unless(entry.len() == 124, NOT_WHOLE)?;
+        let tlc = settlement_tlc(entry);
+        unless(tlc.received <= 1 && tlc.algorithm <= 1, ABOVE_1)?;
+        fits(first_record(h, for_remote, &tlc), output)
+    };
+    said(answer())
 }
 
 /// The first state, whole.
@@ -364,6 +377,11 @@ pub struct Chosen {
     pub key: Option<usize>,
     /// None in a later settlement.
     pub delay: Option<Epoch>,
+    /// Place and length of the chosen TLC's record in the witness, or in a first settlement in the tracked list; for a
+    /// share "the empty part at that slice's start". The Rust does not hand it out.
+    pub record: (usize, usize),
+    /// Which pair of the preimages counted, or 0 where none was wanted. The Rust does not tell it.
+    pub pair: usize,
 }
 
 impl Chosen {
@@ -375,7 +393,13 @@ impl Chosen {
 /// What is chosen: our share, or a TLC of the state with its settlement TLC, by a preimage or by timeout.
 enum Pick {
     Share,
-    Tlc { place: usize, key: usize, preimage: Option<Vec<u8>>, delay: Option<Epoch> },
+    Tlc { place: usize, key: usize, preimage: Option<Preimage>, delay: Option<Epoch> },
+}
+
+/// A preimage that counts, and the place of its pair.
+struct Preimage {
+    pair: usize,
+    bytes: Vec<u8>,
 }
 
 /// "Bit 63: relative. Bits 62-61: 01 epoch. Bits 60-56 aren't looked at."
@@ -389,11 +413,11 @@ fn delay_of(args: &[u8]) -> Answer<Epoch> {
 
 /// "Only the first pair with a tracked TLC's hash is looked at; it counts if its preimage has that hash under the
 /// tracked TLC's algorithm."
-fn counting_preimage(preimages: &[u8], tracked: &Tracked) -> Option<Vec<u8>> {
-    let pair = preimages.chunks(64).find(|pair| &pair[..32] == tracked.hash)?;
-    let preimage = &pair[32..];
+fn counting_preimage(preimages: &[u8], tracked: &Tracked) -> Option<Preimage> {
+    let (pair, bytes) = preimages.chunks(64).enumerate().find(|(_, pair)| &pair[..32] == tracked.hash)?;
+    let preimage = &bytes[32..];
     let digest = if tracked.algorithm == 1 { sha256(preimage) } else { ckb_hash(preimage) };
-    (digest == tracked.hash).then(|| preimage.to_vec())
+    (digest == tracked.hash).then(|| Preimage { pair, bytes: preimage.to_vec() })
 }
 
 /// "Offered with for_remote, received without."
@@ -477,6 +501,7 @@ fn first_choice(asked: &Asked, state: &State, full: Epoch) -> Answer<Pick> {
 fn handed_out(asked: &Asked, state: State, pick: Pick, full: Epoch) -> Chosen {
     let before = state.written();
     let mut after = state;
+    let mut part = (0, 0);
     let (byte, preimage, amount, key, delay) = match pick {
         Pick::Share => {
             let (byte, share) =
@@ -486,18 +511,20 @@ fn handed_out(asked: &Asked, state: State, pick: Pick, full: Epoch) -> Chosen {
             (byte, None, amount, None, asked.witness.is_none().then_some(full))
         }
         Pick::Tlc { place, key, preimage, delay } => {
-            let amount = record(asked.h as usize, &after.tlcs.remove(place)).amount;
-            (place as u8, preimage, amount, Some(key), delay)
+            let bytes = after.tlcs.remove(place);
+            part = (after.places.remove(place), bytes.len());
+            (place as u8, preimage, record(asked.h as usize, &bytes).amount, Some(key), delay)
         }
     };
     let mut unlock = vec![byte, u8::from(preimage.is_some())];
     unlock.extend([0; 65]);
-    unlock.extend(preimage.unwrap_or_default());
+    let pair = preimage.as_ref().map_or(0, |preimage| preimage.pair);
+    unlock.extend(preimage.map_or(vec![], |preimage| preimage.bytes));
     let mut new_args = asked.args[..36].to_vec();
     new_args.extend(&ckb_hash(&after.written())[..20]);
     new_args.push(1);
     new_args.extend(asked.args.iter().skip(57));
-    Chosen { unlock, state: before, new_args, amount, key, delay }
+    Chosen { unlock, state: before, new_args, amount, key, delay, record: part, pair }
 }
 
 fn chosen(asked: &Asked) -> Answer<Chosen> {

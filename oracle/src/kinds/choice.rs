@@ -1,10 +1,11 @@
 //! `choice`: what is unlocked next, in a first and in a later settlement. Document 01, module 8 and "The choice".
 
-use super::first::{case, show_data};
-use super::settlement::{consistent, disturb, lent, since_of, Tlc, AMPLE};
+use super::first::case;
+use super::settlement::{consistent, disturb, lent, since_of, Tlc, AMPLE, TLC};
 use super::{epoch, hex, Kind};
 use crate::document::settlement::{self, Asked, Chosen};
 use crate::document::{Document, Epoch};
+use crate::port::{self, halves, Called};
 use crate::random::Random;
 use crate::reference::calls::{self, Rust};
 
@@ -65,7 +66,12 @@ impl Kind for Choice {
 
     const NAME: &'static str = "choice";
     const ABOUT: &'static str = "the next unlock";
-    const DUMP_LINES: usize = 0;
+    const EXPORT: Option<(&'static str, bool)> =
+        Some(("fiber_settlement_choose", port::CHOOSE.is_some()));
+    const DUMP_LINES: usize = 140;
+    const DUMP_ROWS: bool = true;
+    const DUMP_ALIKE: usize = 9;
+    const DUMP_LATE: bool = true;
 
     fn edges() -> Vec<Asked> {
         let mut edges = vec![];
@@ -141,6 +147,10 @@ impl Kind for Choice {
         if random.one_in(2) {
             disturb(random, &mut asked);
         }
+        // Room for every answer, and not much more: every byte of it is looked at.
+        let state = asked.witness.as_ref().map_or(73 + asked.data.tlcs.len() / TLC * 97, Vec::len);
+        let room = 99 + state + asked.args.len().max(57) + random.below(100) as usize;
+        asked.output = room.min(AMPLE);
         if random.one_in(12) {
             if let Document::Value(chosen) = settlement::choice(&asked) {
                 asked.output = match random.below(4) {
@@ -152,20 +162,44 @@ impl Kind for Choice {
         asked
     }
 
+    /// Of the edges every 23rd, so that all of their loops have a share in the lines.
+    fn edges_for_dump() -> Vec<Asked> {
+        let edges = Self::edges().into_iter().step_by(23);
+        edges.map(|asked| Asked { output: 1000, ..asked }).filter(is_short).collect()
+    }
+
+    fn random_for_dump(random: &mut Random) -> Asked {
+        loop {
+            let asked = Self::random(random);
+            if is_short(&asked) {
+                return asked;
+            }
+        }
+    }
+
     fn document(asked: &Asked) -> Document<Chosen> {
         settlement::choice(asked)
     }
 
     fn rust(asked: &Asked) -> Rust<Chosen> {
         match calls::choice(&case(asked)) {
-            calls::Choice::Chosen(c) => Rust::Value(Chosen {
-                unlock: c.unlock,
-                state: c.state,
-                new_args: c.new_args,
-                amount: c.amount,
-                key: c.key,
-                delay: c.delay.map(|(number, index, length)| Epoch { number, index, length }),
-            }),
+            calls::Choice::Chosen(c) => {
+                // What it does not hand out is taken from document 01.
+                let (record, pair) = match settlement::choice(asked) {
+                    Document::Value(chosen) => (chosen.record, chosen.pair),
+                    Document::Row(..) => ((0, 0), 0),
+                };
+                Rust::Value(Chosen {
+                    unlock: c.unlock,
+                    state: c.state,
+                    new_args: c.new_args,
+                    amount: c.amount,
+                    key: c.key,
+                    delay: c.delay.map(|(number, index, length)| Epoch { number, index, length }),
+                    record,
+                    pair,
+                })
+            }
             calls::Choice::Wait(number) => Rust::Wait(number.into()),
             calls::Choice::Unread | calls::Choice::Error(_) => Rust::TurnedDown,
             // Its way to turn down args that are too short to hold a since value.
@@ -173,6 +207,10 @@ impl Kind for Choice {
             calls::Choice::Panic => Rust::Panicked(String::new()),
             calls::Choice::NotModelled(not_modelled) => Rust::NotModelled(not_modelled),
         }
+    }
+
+    fn port(asked: &Asked, random: &mut Random) -> Called<Chosen> {
+        port::choose(random, port::CHOOSE.expect("checked by the caller"), asked)
     }
 
     /// A later settlement whose delay has the length 0: the text makes an epoch of it, which is then not looked at.
@@ -194,29 +232,57 @@ impl Kind for Choice {
         }
     }
 
+    /// In the order of the call over C; then the length of the output buffer.
     fn show_input(asked: &Asked) -> String {
+        let (local, remote) = (halves(asked.data.local_amount), halves(asked.data.remote_amount));
         format!(
-            "{} {} {} {} {} {} {} {}",
-            show_data(asked.h, asked.for_remote, &asked.data, asked.output),
-            hex(&asked.args),
+            "{} {} {} {} {} {} {} {} {} {} {} {} {} {} {} {} {} {}",
+            asked.h,
+            u8::from(asked.for_remote),
+            u8::from(asked.witness.is_some()),
             asked.time,
             asked.header,
             asked.current,
+            local.0,
+            local.1,
+            remote.0,
+            remote.1,
+            hex(&asked.args),
+            hex(&asked.data.tlcs),
+            hex(&asked.data.local_key),
+            hex(&asked.data.remote_key),
             hex(&asked.tracked),
             hex(&asked.preimages),
-            asked.witness.as_deref().map_or("none".to_string(), hex)
+            asked.witness.as_deref().map_or("-".to_string(), hex),
+            asked.output
         )
     }
 
+    /// The answer's fields from byte 16 on in their order, but for the lengths: then unlock, state and new args.
     fn show_value(chosen: &Chosen) -> String {
+        let byte = chosen.unlock[0];
+        let kind = if byte >= 0xfe { 0 } else { 1 + chosen.unlock[1] };
+        let (low, high) = halves(chosen.amount);
         format!(
-            "{} {} {} {} {} {}",
+            "{kind} {byte} {low} {high} {} {} {} {} {} {} {} {} {} {}",
+            u8::from(chosen.key.is_some()),
+            chosen.key.unwrap_or(0),
+            u8::from(chosen.delay.is_some()),
+            chosen.delay.unwrap_or(epoch(0, 0, 0)),
+            chosen.record.0,
+            chosen.record.1,
+            chosen.pair,
             hex(&chosen.unlock),
             hex(&chosen.state),
             hex(&chosen.new_args),
-            chosen.amount,
-            chosen.key.map_or("settlement key".to_string(), |place| place.to_string()),
-            chosen.delay.map_or("no delay".to_string(), |delay| delay.to_string())
         )
     }
+}
+
+/// Short enough for the dump.
+fn is_short(asked: &Asked) -> bool {
+    let lists = [&asked.data.tlcs, &asked.tracked, &asked.preimages];
+    lists.iter().map(|list| list.len()).sum::<usize>() <= 500
+        && asked.witness.as_ref().map_or(0, |witness| witness.len()) <= 340
+        && asked.output <= 1000
 }

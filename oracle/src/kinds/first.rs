@@ -6,6 +6,7 @@ use super::witness::some_count;
 use super::{hex, Kind};
 use crate::document::settlement::{self, Asked, Data};
 use crate::document::Document;
+use crate::port::{self, halves, Called};
 use crate::random::Random;
 use crate::reference::calls::{self, Case, Rust};
 
@@ -92,7 +93,12 @@ impl Kind for First {
 
     const NAME: &'static str = "first";
     const ABOUT: &'static str = "the first state";
-    const DUMP_LINES: usize = 0;
+    const EXPORT: Option<(&'static str, bool)> =
+        Some(("fiber_test_data_witness", port::DATA_WITNESS.is_some()));
+    const DUMP_LINES: usize = 120;
+    const DUMP_ROWS: bool = true;
+    const DUMP_ALIKE: usize = 40;
+    const DUMP_LATE: bool = true;
 
     fn edges() -> Vec<Input> {
         let mut edges = vec![];
@@ -146,9 +152,22 @@ impl Kind for First {
         let output = match random.below(10) {
             0 => random.near(needed as u64) as usize,
             1 => random.below(needed as u64) as usize,
-            _ => AMPLE,
+            _ => needed + random.below(200) as usize,
         };
         Input { h, for_remote: mood.for_remote, data, output }
+    }
+
+    fn edges_for_dump() -> Vec<Input> {
+        Self::edges().into_iter().map(with_less_room).filter(is_short).collect()
+    }
+
+    fn random_for_dump(random: &mut Random) -> Input {
+        loop {
+            let input = with_less_room(Self::random(random));
+            if is_short(&input) {
+                return input;
+            }
+        }
     }
 
     fn document(i: &Input) -> Document<Vec<u8>> {
@@ -160,6 +179,11 @@ impl Kind for First {
             Ok(state) => Rust::Value(state),
             Err(_) => Rust::TurnedDown,
         }
+    }
+
+    fn port(i: &Input, random: &mut Random) -> Called<Vec<u8>> {
+        let call = port::DATA_WITNESS.expect("checked by the caller");
+        port::data_witness(random, call, i.h, i.for_remote, &i.data, i.output)
     }
 
     fn further(i: &Input) -> Result<(), &'static str> {
@@ -189,8 +213,22 @@ impl Kind for First {
         }
     }
 
+    /// In the order of the call over C; then the length of the output buffer.
     fn show_input(i: &Input) -> String {
-        show_data(i.h, i.for_remote, &i.data, i.output)
+        let (local, remote) = (halves(i.data.local_amount), halves(i.data.remote_amount));
+        format!(
+            "{} {} {} {} {} {} {} {} {} {}",
+            i.h,
+            u8::from(i.for_remote),
+            local.0,
+            local.1,
+            remote.0,
+            remote.1,
+            hex(&i.data.tlcs),
+            hex(&i.data.local_key),
+            hex(&i.data.remote_key),
+            i.output
+        )
     }
 
     fn show_value(state: &Vec<u8>) -> String {
@@ -198,14 +236,110 @@ impl Kind for First {
     }
 }
 
-pub fn show_data(h: u64, for_remote: bool, data: &Data, output: usize) -> String {
-    format!(
-        "{h} {} {} {} {} {} {} {output}",
-        u8::from(for_remote),
-        hex(&data.tlcs),
-        data.local_amount,
-        data.remote_amount,
-        hex(&data.local_key),
-        hex(&data.remote_key)
-    )
+/// Short enough for the dump.
+fn is_short(i: &Input) -> bool {
+    i.data.tlcs.len() <= 2 * TLC && i.output <= 1000
+}
+
+fn with_less_room(i: Input) -> Input {
+    Input { output: if i.output == AMPLE { 1000 } else { i.output }, ..i }
+}
+
+/// `record`: one record of it, `settlement_tlc_witness`.
+pub struct Record;
+
+#[derive(Clone)]
+pub struct One {
+    h: u64,
+    for_remote: bool,
+    /// 124 bytes, where it is whole.
+    tlc: Vec<u8>,
+    output: usize,
+}
+
+impl Kind for Record {
+    type Input = One;
+    /// The record.
+    type Value = Vec<u8>;
+
+    const NAME: &'static str = "record";
+    const ABOUT: &'static str = "one first record";
+    const EXPORT: Option<(&'static str, bool)> =
+        Some(("fiber_test_tlc_witness", port::TLC_WITNESS.is_some()));
+    const DUMP_LINES: usize = 0;
+
+    fn edges() -> Vec<One> {
+        let mut edges = vec![];
+        for h in [20, 32, 0, 19, 21, 31, 33, 256 + 20, u64::MAX] {
+            for for_remote in [true, false] {
+                for place in 0..20 {
+                    let tlc = lent(&[plain(place)], [4; 33], [5; 33]).tlcs;
+                    edges.push(One { h, for_remote, tlc, output: 97 });
+                }
+            }
+        }
+        edges
+    }
+
+    /// Every length of the TLC and of the output up to 130, and every byte of received and of algorithm.
+    fn grid_size() -> u64 {
+        2 * 2 * (131 + 131 + 2 * 256)
+    }
+
+    fn grid(place: u64) -> One {
+        let mut next = super::digits(place);
+        let (h, for_remote, what) = ([20, 32][next(2) as usize], next(2) == 1, next(131 + 131 + 2 * 256));
+        let mut tlc = lent(&[plain(what as usize % 20)], [4; 33], [5; 33]).tlcs;
+        let mut output = 97;
+        match what {
+            0..=130 => tlc.resize(what as usize, 1),
+            131..=261 => output = what as usize - 131,
+            _ => tlc[what as usize % 2] = ((what - 262) / 2) as u8,
+        }
+        One { h, for_remote, tlc, output }
+    }
+
+    fn random(random: &mut Random) -> One {
+        let mut h = random.pick(&[20, 32]);
+        if random.one_in(60) {
+            h = other_h(random, h);
+        }
+        let mood = Mood { for_remote: random.one_in(2), time: generator::some_time(random), share: false };
+        let mut tlc = lent(&some_tlcs(random, mood, 1), [4; 33], [5; 33]).tlcs;
+        match random.below(20) {
+            0 => tlc.resize(random.pick(&[0, 1, 123, 125, 248]), 0),
+            1 => tlc[random.below(2) as usize] = random.below(256) as u8,
+            2 => random.fill(&mut tlc[2..]),
+            _ => {}
+        }
+        let output = match random.below(10) {
+            0 => random.below(98) as usize,
+            1 => random.near(65 + h % 256) as usize,
+            _ => 100 + random.below(100) as usize,
+        };
+        One { h, for_remote: mood.for_remote, tlc, output }
+    }
+
+    fn document(i: &One) -> Document<Vec<u8>> {
+        settlement::tlc_witness(i.h, i.for_remote, &i.tlc, i.output)
+    }
+
+    fn rust(i: &One) -> Rust<Vec<u8>> {
+        let data = Data { tlcs: i.tlc.clone(), ..lent(&[], [4; 33], [5; 33]) };
+        let case = first_case(&Input { h: i.h, for_remote: i.for_remote, data, output: 0 });
+        Rust::Value(calls::tlc_record(&case, 0))
+    }
+
+    fn port(i: &One, random: &mut Random) -> Called<Vec<u8>> {
+        let call = port::TLC_WITNESS.expect("checked by the caller");
+        port::tlc_witness(random, call, i.h, i.for_remote, &i.tlc, i.output)
+    }
+
+    fn show_input(i: &One) -> String {
+        format!("{} {} {} {}", i.h, u8::from(i.for_remote), hex(&i.tlc), i.output)
+    }
+
+    fn show_value(record: &Vec<u8>) -> String {
+        hex(record)
+    }
 }

@@ -31,7 +31,7 @@ fn input(h: u64, witness: Vec<u8>) -> Input {
 }
 
 /// A state of `n` TLCs behind its count byte, every byte told by its place.
-fn counted(h: u64, n: u8) -> Vec<u8> {
+pub fn counted(h: u64, n: u8) -> Vec<u8> {
     let length = usize::from(n) * (65 + h as usize) + 72;
     let mut witness = vec![1, n];
     witness.extend((0..length).map(|i| (i * 7 + i / 256 + 1) as u8));
@@ -39,7 +39,7 @@ fn counted(h: u64, n: u8) -> Vec<u8> {
 }
 
 /// An unlock, with a preimage where the flag is 1, every byte told by its place.
-fn push_unlock(witness: &mut Vec<u8>, byte: u8, flag: u8) {
+pub fn push_unlock(witness: &mut Vec<u8>, byte: u8, flag: u8) {
     witness.extend([byte, flag]);
     witness.extend(100..if flag == 1 { 197 } else { 165 });
 }

@@ -385,6 +385,43 @@ fn built(
     }
 }
 
+/// A case in the reference's own types, for the benchmark.
+pub struct Prepared {
+    case: Case,
+    data: SettlementData,
+    tracked: Vec<TrackedSettlementTlc>,
+}
+
+impl Prepared {
+    pub fn new(case: &Case) -> Prepared {
+        Prepared { case: case.clone(), data: settlement_data(case), tracked: tracked_list(case) }
+    }
+
+    /// Reader and choice without more. Is something chosen?
+    pub fn choose(&self) -> bool {
+        let case = &self.case;
+        let read = case.witness.as_ref().map(|witness| {
+            SettlementWitness::build_from_witness(witness, features(case.h)).expect("a whole witness")
+        });
+        let answer = build_settlement_tx(
+            cell(case),
+            fields(case.header),
+            fields(case.current),
+            case.time,
+            &NodeId::local(),
+            case.for_remote,
+            channel_data(case),
+            &self.data,
+            read,
+            &self.tracked,
+            &LocalSigner,
+            &mut NoCells,
+            &Store(&case.preimages),
+        );
+        matches!(std::hint::black_box(answer), Ok(Some(_)))
+    }
+}
+
 /// One `Since` is made for the args and one for each TLC walked in a later settlement. A later settlement that gets
 /// to the walk and waits has at least one TLC.
 fn wait_number(is_later: bool) -> u8 {
