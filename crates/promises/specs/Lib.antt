@@ -1,0 +1,2 @@
+-- What a host may rely on about a choice.
+pub mod Promises
