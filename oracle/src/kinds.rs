@@ -40,8 +40,8 @@ pub trait Kind {
     const DUMP_ROWS: bool = false;
     /// How many of them at most tell one class of values, or one row.
     const DUMP_ALIKE: usize = usize::MAX;
-    /// Are its lines in the dump only where all are asked for?
-    const DUMP_LATE: bool = false;
+    /// What its lines of the dump begin with. There no two kinds have the same first letter.
+    const DUMP_NAME: &'static str = Self::NAME;
 
     /// Inputs picked by hand, the most telling first.
     fn edges() -> Vec<Self::Input>;
@@ -92,7 +92,6 @@ pub struct Entry {
     pub compare: fn(&Options) -> Tally,
     pub one: fn(u64, u64, bool) -> bool,
     pub dump: fn(u64) -> Vec<String>,
-    pub dump_late: bool,
     pub reached: fn(u64) -> BTreeSet<String>,
 }
 
@@ -104,7 +103,6 @@ const fn entry<K: Kind>() -> Entry {
         compare: run::compare::<K>,
         one: run::one::<K>,
         dump: run::dump::<K>,
-        dump_late: K::DUMP_LATE,
         reached: run::reached::<K>,
     }
 }

@@ -29,8 +29,7 @@ oracle: the text of nervosnetwork/fiber at 21c4dfbdbd, compared with the port ov
       --from CASE     first case (0); cases are numbered, edges first
       --no-port       compares document 01 and the Rust alone
   oracle one KIND SEED CASE [--no-port]   runs one case alone and prints all answers
-  oracle dump [--seed X] [--all]       prints a sample of the Rust's answers, in the format told at its top;
-                                       lines of first and choice are in it with --all alone
+  oracle dump [--seed X]               prints a sample of the Rust's answers, in the format told at its top
   oracle bench                         measures reader, update and choice beside the Rust (a release build)
   oracle settle --bin PATH [options]   runs the program `settle` as a process and compares what it prints
       --rounds N      how many processes (2000)
@@ -216,26 +215,17 @@ fn settle(words: &[&str]) -> i32 {
 }
 
 fn dump(words: &[&str]) -> i32 {
-    let (mut seed, mut all) = (1u64, false);
+    let mut seed = 1u64;
     let mut rest = words.iter();
     while let Some(word) = rest.next() {
         match *word {
             "--seed" => seed = number(word, rest.next().unwrap_or_else(|| wrong("--seed wants a number"))),
-            "--all" => all = true,
             other => wrong(&format!("there is no option {other}")),
         }
     }
-    let (command, rows, lines) = match all {
-        true => (format!("{seed} --all"), DUMP_ROWS_LATE, DUMP_LATE),
-        false => (seed.to_string(), DUMP_ROWS, ""),
-    };
-    let header = DUMP_HEADER
-        .replace("SEED", &command)
-        .replace("DIGEST", &selftest::sliced_digest())
-        .replace("ROWS", rows)
-        .replace("LATE", lines);
+    let header = DUMP_HEADER.replace("SEED", &seed.to_string()).replace("DIGEST", &selftest::sliced_digest());
     print!("{header}");
-    for kind in TABLE.iter().filter(|kind| all || !kind.dump_late) {
+    for kind in TABLE {
         for line in (kind.dump)(seed) {
             println!("{line}");
         }
@@ -251,7 +241,10 @@ const DUMP_HEADER: &str = "\
 # One case per line: kind, inputs, `=`, answers, parted by single blanks. Lines that begin with # are comments.
 # Numbers are decimal, byte strings lower-case hex, `-` is the empty byte string. The answer `none` is the Rust's
 # None: for `mul` a refusal, whose number the Rust does not tell (7 or 8 in document 01), for `expiry` no expiry.
-ROWS#
+# `refused`, in lines of `read`, `update`, `first` and `pick`, is a refusal or a wait (20, 21, 22) with number and place
+# from document 01's table: the Rust turns these inputs down or waits too, without number or place; but for 6, 7, 13 and
+# 14, and 10 of args of 28 to 35 bytes, for which it is not asked.
+#
 #   mul     number index length numerator denominator = number index length, or none
 #   due     header, delay and current, each as number index length = 1 if due, else 0
 #   expiry  since = milliseconds, or none
@@ -260,31 +253,15 @@ ROWS#
 #   sha256  message = SHA-256, 32 bytes
 #   read    h witness = n, number of unlocks, places of the share part and the first unlock; or refused number place
 #   update  h witness, length of the output buffer = the state left; or refused number place
-LATE#
+#   first   settlement TLCs, local key, remote key, h for_remote, local amount and remote amount (each low half, high
+#           half), length of the output buffer = the first state; or refused number place
+#   pick    the choice: args, settlement TLCs, local key, remote key, tracked list, pairs, witness, h for_remote is_later
+#           time, header and current (each number index length), local amount and remote amount (each low half, high
+#           half), length of the output buffer = unlock, state and new args as one byte string, then kind byte, amount
+#           (low half, high half), key kind, key place, delay kind, delay (number index length), record (place length),
+#           lengths of unlock, state and new args, place of the pair; or refused number place. Record and place of the
+#           pair are document 01's, as the Rust does not tell them.
+#
 # Left out are other inputs outside the equality of document 01: what cannot be handed to the Rust (fields beyond their
 # bits, keys of other lengths), whole parts above 16777215, a length of 0 in the due test.
-";
-
-/// What the header says of refusals.
-const DUMP_ROWS: &str = "\
-# `refused`, in lines of `read` and `update`, is a refusal with number and place from document 01's table: the Rust
-# turns these inputs down too, without number or place; but for 6, 13 and 14, for which it is not asked.
-";
-
-/// The same with `--all`.
-const DUMP_ROWS_LATE: &str = "\
-# `refused`, in lines of `read`, `update`, `first` and `choice`, is a refusal or a wait (20, 21, 22) with number and place
-# from document 01's table: the Rust turns these inputs down or waits too, without number or place; but for 6, 7, 13 and
-# 14, and 10 of args of 28 to 35 bytes, for which it is not asked.
-";
-
-/// What the header says of the lines that are there with `--all`.
-const DUMP_LATE: &str = "\
-#   first   h for_remote, local amount and remote amount (each low half, high half), settlement TLCs, local key,
-#           remote key, length of the output buffer = the first state; or refused number place
-#   choice  h for_remote is_later time, header and current (each number index length), local amount and remote amount
-#           (each low half, high half), args, settlement TLCs, local key, remote key, tracked list, pairs, witness,
-#           length of the output buffer = kind byte, amount (low half, high half), key kind, key place, delay kind,
-#           delay (number index length), record (place length), place of the pair, unlock, state, new args; or refused
-#           number place. Record and place of the pair are document 01's, as the Rust does not tell them.
 ";

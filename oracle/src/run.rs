@@ -323,7 +323,7 @@ pub fn dump<K: Kind>(seed: u64) -> Vec<String> {
                 (Some(Rust::TurnedDown), _) => "none".to_string(),
                 (None | Some(Rust::Wait(_) | Rust::Panicked(_) | Rust::NotModelled(_)), _) => return None,
             };
-            let line = format!("{} {} = {answer}", K::NAME, K::show_input(&input));
+            let line = format!("{} {} = {answer}", K::DUMP_NAME, K::show_input(&input));
             if !seen.insert(line.clone()) {
                 return None;
             }

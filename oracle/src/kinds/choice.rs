@@ -70,8 +70,8 @@ impl Kind for Choice {
         Some(("fiber_settlement_choose", port::CHOOSE.is_some()));
     const DUMP_LINES: usize = 140;
     const DUMP_ROWS: bool = true;
-    const DUMP_ALIKE: usize = 9;
-    const DUMP_LATE: bool = true;
+    const DUMP_ALIKE: usize = 8;
+    const DUMP_NAME: &'static str = "pick";
 
     fn edges() -> Vec<Asked> {
         let mut edges = vec![];
@@ -232,11 +232,18 @@ impl Kind for Choice {
         }
     }
 
-    /// In the order of the call over C; then the length of the output buffer.
+    /// The byte strings, then the numbers, both in the order of the call over C; then the length of the output buffer.
     fn show_input(asked: &Asked) -> String {
         let (local, remote) = (halves(asked.data.local_amount), halves(asked.data.remote_amount));
         format!(
             "{} {} {} {} {} {} {} {} {} {} {} {} {} {} {} {} {} {}",
+            hex(&asked.args),
+            hex(&asked.data.tlcs),
+            hex(&asked.data.local_key),
+            hex(&asked.data.remote_key),
+            hex(&asked.tracked),
+            hex(&asked.preimages),
+            asked.witness.as_deref().map_or("-".to_string(), hex),
             asked.h,
             u8::from(asked.for_remote),
             u8::from(asked.witness.is_some()),
@@ -247,34 +254,28 @@ impl Kind for Choice {
             local.1,
             remote.0,
             remote.1,
-            hex(&asked.args),
-            hex(&asked.data.tlcs),
-            hex(&asked.data.local_key),
-            hex(&asked.data.remote_key),
-            hex(&asked.tracked),
-            hex(&asked.preimages),
-            asked.witness.as_deref().map_or("-".to_string(), hex),
             asked.output
         )
     }
 
-    /// The answer's fields from byte 16 on in their order, but for the lengths: then unlock, state and new args.
+    /// Unlock, state and new args as one byte string, then the answer's fields from byte 16 on in their order.
     fn show_value(chosen: &Chosen) -> String {
         let byte = chosen.unlock[0];
         let kind = if byte >= 0xfe { 0 } else { 1 + chosen.unlock[1] };
         let (low, high) = halves(chosen.amount);
         format!(
-            "{kind} {byte} {low} {high} {} {} {} {} {} {} {} {} {} {}",
+            "{} {kind} {byte} {low} {high} {} {} {} {} {} {} {} {} {} {}",
+            hex(&[&chosen.unlock[..], &chosen.state, &chosen.new_args].concat()),
             u8::from(chosen.key.is_some()),
             chosen.key.unwrap_or(0),
             u8::from(chosen.delay.is_some()),
             chosen.delay.unwrap_or(epoch(0, 0, 0)),
             chosen.record.0,
             chosen.record.1,
+            chosen.unlock.len(),
+            chosen.state.len(),
+            chosen.new_args.len(),
             chosen.pair,
-            hex(&chosen.unlock),
-            hex(&chosen.state),
-            hex(&chosen.new_args),
         )
     }
 }

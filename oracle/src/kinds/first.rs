@@ -98,7 +98,6 @@ impl Kind for First {
     const DUMP_LINES: usize = 120;
     const DUMP_ROWS: bool = true;
     const DUMP_ALIKE: usize = 40;
-    const DUMP_LATE: bool = true;
 
     fn edges() -> Vec<Input> {
         let mut edges = vec![];
@@ -213,20 +212,20 @@ impl Kind for First {
         }
     }
 
-    /// In the order of the call over C; then the length of the output buffer.
+    /// The byte strings, then the numbers, both in the order of the call over C; then the length of the output buffer.
     fn show_input(i: &Input) -> String {
         let (local, remote) = (halves(i.data.local_amount), halves(i.data.remote_amount));
         format!(
             "{} {} {} {} {} {} {} {} {} {}",
+            hex(&i.data.tlcs),
+            hex(&i.data.local_key),
+            hex(&i.data.remote_key),
             i.h,
             u8::from(i.for_remote),
             local.0,
             local.1,
             remote.0,
             remote.1,
-            hex(&i.data.tlcs),
-            hex(&i.data.local_key),
-            hex(&i.data.remote_key),
             i.output
         )
     }
