@@ -40,7 +40,7 @@ pub trait Kind {
     const DUMP_ROWS: bool = false;
     /// How many of them at most tell one class of values, or one row.
     const DUMP_ALIKE: usize = usize::MAX;
-    /// What its lines of the dump begin with. There no two kinds have the same first letter.
+    /// What its lines of the dump begin with. Of the kinds that have lines no two begin alike.
     const DUMP_NAME: &'static str = Self::NAME;
 
     /// Inputs picked by hand, the most telling first.
