@@ -489,3 +489,8 @@ choiceOf c isLater w out = cond (lentWell c) (afterDelay c isLater w out (delayO
 -- a record, as a part of the witness or of the tracked list
 unfoldable pub recordPart : Bool → ℕ → ℕ → List ℕ → List ℕ → List ℕ
 recordPart isLater place len w tracked = part (cond isLater w tracked) place len
+
+-- the record of the TLC that was chosen; the empty part for a share, a wait or a refusal
+unfoldable pub recordOf : Bool → ChoiceAnswer → List ℕ → List ℕ → List ℕ
+recordOf isLater (answer·.Chosen handed) w tracked = recordPart isLater (handed .place) (handed .len) w tracked
+recordOf isLater (answer·.Refused number place) w tracked = recordPart isLater 0 0 w tracked

@@ -224,9 +224,8 @@ pub fn choose(
     }
 }
 
-// The record of the chosen TLC, by the place and the length in what was handed out: a part of the witness in a later
-// settlement, of the tracked list in a first one. For a share, a wait or a refusal both are 0: the empty part at the start.
-pub fn record_of<'a>(
+// A part of the witness in a later settlement, of the tracked list in a first one.
+fn record_part<'a>(
     is_later: bool,
     place: usize,
     len: usize,
@@ -239,4 +238,25 @@ pub fn record_of<'a>(
         return part_of(witness, place, len);
     }
     part_of(tracked, place, len)
+}
+
+// The record of the chosen TLC, as a part of the witness or of the tracked list. For a share, a wait or a refusal it is the
+// empty part at that slice's start.
+pub fn record_of<'a>(
+    is_later: bool,
+    answer: ChoiceAnswer,
+    witness: &'a [u8],
+    tracked: &'a [u8],
+) -> &'a [u8]
+    ensures { λ r. ⌜ now r ≡ S.recordOf «is_later» answer (now (witness .entry)) (now (tracked .entry)) ⌝ }
+{
+    match answer {
+        ChoiceAnswer::Chosen(handed) => {
+            record_part(is_later, handed.place, handed.len, witness, tracked)
+        }
+        ChoiceAnswer::Refused {
+            number: _,
+            place: _,
+        } => { record_part(is_later, 0, 0, witness, tracked) }
+    }
 }

@@ -1,16 +1,24 @@
--- The flag says which of the two lists it is a part of.
-use Rattle.watchtower.specs.Choice.{recordPart}
+-- What was handed out names the part; without it the part is empty.
+use Rattle.watchtower.specs.Choice.{recordOf}
 use borrow.Author.Needs.{needs}
 use Rattle.watchtower.proofs.choice.record_of.Statement.{statement}
 use Rattle.watchtower.proofs.choice.record_of.Tie as tie
 
 returns : tie.Need-returns
-unfolding recordPart
-returns c = rw (c .before .if1 .taken) (c .part-of .ensures)
+unfolding recordOf
+returns c = rw (c .before .before .answer .given .1) (c .record-part .ensures)
 
 returns-2 : tie.Need-returns-2
-unfolding recordPart
-returns-2 c = rw (c .before .if1 .left) (c .part-of2 .ensures)
+unfolding recordOf
+returns-2 c = rw (c .before .enum-told .given .1) (c .record-part2 .ensures)
 
 pub record-of-spec : {M : Type 1} → statement M
-record-of-spec = tie.close (tie.spec (λ c κs. search needs) returns (λ c κs. search needs) returns-2)
+record-of-spec =
+    tie.close
+    (tie.spec
+    (λ c. search needs)
+    (λ c κs. search needs)
+    (λ c. search needs)
+    (λ c κs. search needs)
+    returns
+    returns-2)
