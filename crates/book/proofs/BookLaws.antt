@@ -21,6 +21,7 @@ use Rattle.watchtower.specs.declared.witness.WitnessRead.{WitnessRead}
 use Rattle.watchtower.specs.declared.witness.WitnessRead.the-variants as read·
 use Rattle.watchtower.specs.declared.update.Verdict.{Verdict}
 use Rattle.watchtower.specs.declared.update.Verdict.the-variants as verdict·
+use Rattle.watchtower.proofs.UpdateLaws.{left-length}
 use Rattle.watchtower.proofs.LeftLaws.{take-sets}
 use Rattle.watchtower.specs.Witness.{member, places, unlessCut, readUnlocks, readWitness}
 use Rattle.watchtower.specs.Update.{Taken, none, Judged, judge, keep, shareLeft, standing, stateLeft, afterVerdict, afterJudged, afterRead, updated}
@@ -231,12 +232,6 @@ after b t p = record {
   paid = p;
 }
 
--- a share has 36 bytes, unlocked or not
-share-length : (g : Bool) (s : List ℕ) → length s ≡ 36 → length (shareLeft g s) ≡ 36
-unfolding shareLeft
-share-length true s e = refl
-share-length false s e = e
-
 -- a book whose state is sound
 abbrev pub SoundBook : ℕ → Book → Type 0
 SoundBook h b = Sound h (standingOf b) (b .remote) (b .local)
@@ -247,8 +242,8 @@ after-sound h b ok t p = record {
   hash = ok .hash;
   few = omega (arith, ap length (back-marked (t .settled) (b .tlcs) 0), keep-few (t .settled) 0 (standingOf b), ok .few);
   even = rw (back-marked (t .settled) (b .tlcs) 0) (even-keep (t .settled) 0 (ok .even));
-  remote = share-length (t .remote) (b .remote) (ok .remote);
-  local = share-length (t .local) (b .local) (ok .local);
+  remote = left-length (t .remote) (b .remote) (ok .remote);
+  local = left-length (t .local) (b .local) (ok .local);
 }
 
 -- An accepted call: the judgement is fine, the book is moved by what it took, and the host reads the book's state back.

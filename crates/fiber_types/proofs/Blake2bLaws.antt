@@ -182,6 +182,19 @@ hashed-from p s h₀ h e f = f ∙ ap (λ (l : List ℕ). hashed l s) e
 pub eight : (p s h₀ h : List ℕ) → h₀ ≡ initial 8 p → h ≡ hashed h₀ s → length h ≡ 8
 eight p s h₀ h e f = ap length (hashed-from p s h₀ h e f) ∙ hashed-length (initial 8 p) s ∙ initial-length p
 
+-- eight bytes for each word
+words-length : (l : List ℕ) → length (wordsBytes l) ≡ 8 * length l
+unfolding wordsBytes
+words-length [] = refl
+words-length (x ∷ l) = omega (arith, length-append (leBytes 8 x) (wordsBytes l), leBytes-length 8 x, words-length l)
+
+-- a CKB hash has 32 bytes
+pub ckb-length : (s : List ℕ) → length (ckbHash s) ≡ 32
+unfolding ckbHash blake2b chain params
+ckb-length s =
+    let h = hashed (initial 8 (params 32 ckbPersonal)) s in
+    length-take 32 (wordsBytes h) ∙ omega (arith, words-length h, eight (params 32 ckbPersonal) s _ h refl refl)
+
 pub chain-by : (p s h₀ h r : List ℕ) → h₀ ≡ initial 8 p → h ≡ hashed h₀ s → r ≡ wordsBytes (take 8 h) → r ≡ chain p s
 unfolding chain
 chain-by p s h₀ h r e f g =

@@ -23,6 +23,7 @@ use Rattle.fiber_types.specs.declared.tlc.Amount.{Amount}
 use Rattle.fiber_types.specs.Blake2b.{ckbHash}
 use Rattle.fiber_types.specs.Epoch.{scaled}
 use Rattle.fiber_types.specs.Records.{known, witnessLen, unlockBytes, outcome}
+use Rattle.fiber_types.proofs.Blake2bLaws.{ckb-length}
 use Rattle.fiber_types.proofs.RecordsLaws.{unlockBytes-length, at-least}
 use Rattle.watchtower.specs.declared.witness.WitnessRead.{WitnessRead}
 use Rattle.watchtower.specs.declared.witness.WitnessRead.the-variants as read·
@@ -50,11 +51,12 @@ use Rattle.watchtower.specs.Choice.{Case, settlementTlcs, trackedTlcs, pairs, l
 use Rattle.watchtower.specs.Plan.{Within, Below, PairBelow, Paired}
 use Rattle.watchtower.proofs.WitnessLaws.{places-nil, places-cons, shares-whole, witness-tlcs, read-fine}
 use Rattle.watchtower.proofs.LaterLaws.{pick-chosen}
-use Rattle.watchtower.proofs.HandedLaws.{hash-length, tracked-length, Each, each-flat, keep-small, state-size, left-length, within-tlcs, within-pairs}
-use Rattle.watchtower.proofs.LentLaws.{entries-length, entry-at, entry-room}
+use Rattle.watchtower.proofs.UpdateLaws.{left-length}
+use Rattle.watchtower.proofs.HandedLaws.{Each, each-flat, keep-small, state-size, within-tlcs, within-pairs}
+use Rattle.watchtower.proofs.LentLaws.{both-split, tracked-length, tracked-at, entries-length, entry-at, entry-room}
 use Rattle.watchtower.proofs.FirstLaws.{firsts-count, share-length}
 use Rattle.watchtower.proofs.InitialLaws.{first-chosen}
-use Rattle.watchtower.proofs.ChoiceLaws.{both-split, lists-length}
+use Rattle.watchtower.proofs.ChoiceLaws.{lists-length}
 use Rattle.promises.specs.Promises.{NeverAbove253, Stands, ChosenStands, StandsFirst, ChosenStandsFirst, AllLong, UnlockAccepted, Accepted, HandedAccepted, StateOfWitness, StateOfData, atTime, LaterTimeStep, Onward, waits, stays, sooner, LaterTime, LaterTimePick, FirstTime, caseAt, LaterTimeChoice}
 
 -- a claim of both cases holds of the test's answer
@@ -83,13 +85,6 @@ lists-equal (x ∷ a) [] e = let z : _≡_ {A = ℕ} 0 1 = cc in absurd (omega a
 lists-equal (x ∷ a) (y ∷ b) e =
     let s = both-split (same x y) (sameLists a b) e in
     ap (λ (k : List ℕ). k ∷ a) (same-equal x y (s .0)) ∙ ap (λ (l : List (List ℕ)). y ∷ l) (lists-equal a b (s .1))
-
--- the record of a tracked TLC is behind 33 bytes of it
-tracked-at : (es : List (List ℕ)) (i : ℕ) → getD (trackedRecords es) i [] ≡ trackedRecord (getD es i [])
-unfolding trackedRecords
-tracked-at [] i = sym (drop-nil 33)
-tracked-at (e ∷ es) zero = refl
-tracked-at (e ∷ es) (suc i) = tracked-at es i
 
 -- ---- what is said of a pick is said of all that is handed out
 
@@ -961,8 +956,8 @@ new-length args s t =
       length-append (take 36 args) (take 20 (ckbHash t)),
       length-take 20 (ckbHash s),
       length-take 20 (ckbHash t),
-      hash-length s (ckbHash s) refl,
-      hash-length t (ckbHash t) refl,
+      ckb-length s,
+      ckb-length t,
     )
 
 -- what is handed out now, and that something is later

@@ -65,13 +65,8 @@ use Rattle.watchtower.specs.Choice.{
   choiceOf,
 }
 use Rattle.watchtower.proofs.UpdateLaws.{Told, marks-marked, keep-marked}
-use Rattle.watchtower.proofs.LentLaws.{both-false, both-true}
-use Rattle.watchtower.proofs.HandedLaws.{tracked-length, tracked-size}
-
--- two tests that are both true
-pub both-split : (x y : Bool) → cond x y false ≡ true → (x ≡ true) × (y ≡ true)
-both-split true y e = (refl, e)
-both-split false y e = let z : _≡_ {A = ℕ} 0 1 = cc in absurd (omega arith)
+use Rattle.watchtower.proofs.LentLaws.{both-false, both-true, both-split, tracked-length}
+use Rattle.watchtower.proofs.HandedLaws.{tracked-size}
 
 -- one of two, as a test picks it
 pub by-flag : (b : Bool) (x y z : List ℕ) → ((b ≡ true) × (z ≡ x)) ⊎ ((b ≡ false) × (z ≡ y)) → z ≡ cond b x y

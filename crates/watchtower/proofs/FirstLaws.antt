@@ -21,14 +21,15 @@ use Rattle.fiber_types.specs.declared.tlc.Tlc.{Tlc}
 use Rattle.fiber_types.specs.Blake2b.{ckbHash}
 use Rattle.fiber_types.specs.Key.{keyHash}
 use Rattle.fiber_types.specs.Records.{Outcome, known, amountAt, wroteTlc, outcome}
+use Rattle.fiber_types.proofs.Blake2bLaws.{ckb-length}
 use Rattle.fiber_types.proofs.RecordsLaws.{known-small, tlcBytes-length, tlc-written, outcome-unfit, outcome-short, outcome-whole}
 use Rattle.watchtower.specs.Witness.{recordLen, records, flat}
 use Rattle.watchtower.specs.Lent.{both, same, entries, wholeEntries, all, settlementLen, settlementWell, localKey, remoteKey}
 use Rattle.watchtower.specs.First.{Data, hashOf, firstRecord, firstRecords, wroteFirstTlc, shareBytes, firstRemote, firstLocal, firstState, dataWell, wroteFirst}
 use Rattle.watchtower.specs.Choice.{sameLists}
 use Rattle.watchtower.proofs.WitnessLaws.{records-length}
-use Rattle.watchtower.proofs.LentLaws.{entries-length, entry-room, both-true, Along, along-cons, along-next, along-room, along-stop, along-end}
-use Rattle.watchtower.proofs.HandedLaws.{Each, each-flat, hash-length, sets-back, tlcs, tlcs-length, tlc-at, state-size, state-puts}
+use Rattle.watchtower.proofs.LentLaws.{entries-length, entry-room, both-true, both-split, Along, along-cons, along-next, along-room, along-stop, along-end}
+use Rattle.watchtower.proofs.HandedLaws.{Each, each-flat, sets-back, tlcs, tlcs-length, tlc-at, state-size, state-puts}
 
 -- ---- a record
 
@@ -38,13 +39,8 @@ unfolding keyHash
 key-length key = go (eqb (length key) 33)
   where
     go : (b : Bool) → length ((cond {A = KeyHash} b (record { answer = Taken; bytes = take 20 (ckbHash key) }) (record { answer = Refused 14 0; bytes = replicate 20 0 })) .bytes) ≡ 20
-    go true = length-take 20 (ckbHash key) ∙ omega (arith, hash-length key (ckbHash key) refl)
+    go true = length-take 20 (ckbHash key) ∙ omega (arith, ckb-length key)
     go false = refl
-
--- two tests that are both true
-both-split : (x y : Bool) → cond x y false ≡ true → (x ≡ true) × (y ≡ true)
-both-split true y e = (refl, e)
-both-split false y e = let z : _≡_ {A = ℕ} 0 1 = cc in absurd (omega arith)
 
 -- received and algorithm of a settlement TLC that is well
 pub well-bytes : (t : List ℕ) → settlementWell t ≡ true → (getD t 0 0 ≤ 1) × (getD t 1 0 ≤ 1)

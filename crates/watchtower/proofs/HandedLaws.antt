@@ -18,7 +18,7 @@ use Rattle.fiber_types.specs.declared.tlc.Amount.{Amount}
 use Rattle.fiber_types.specs.Records.{amountAt, witnessLen, unlockBytes, wroteUnlock}
 use Rattle.fiber_types.proofs.RecordsLaws.{unlock-written, unlockBytes-length, at-least}
 use Rattle.fiber_types.specs.Blake2b.{ckbHash, blake2b, chain, params, ckbPersonal, initial, hashed, wordsBytes}
-use Rattle.fiber_types.proofs.Blake2bLaws.{eight}
+use Rattle.fiber_types.proofs.Blake2bLaws.{ckb-length}
 use Rattle.watchtower.specs.declared.choice.Side.the-variants as side·
 use Rattle.watchtower.specs.declared.choice.Way.{Way}
 use Rattle.watchtower.specs.declared.choice.Way.the-variants as way·
@@ -31,8 +31,8 @@ use Rattle.watchtower.specs.Lent.{entries, trackedLen, trackedRecords, p
 use Rattle.watchtower.specs.declared.choice.ChoiceAnswer.the-variants as answer·
 use Rattle.watchtower.specs.Choice.{Picked, newArgs, sideByte, wayBytes, unlockOf, sideTaken, takes, stateAfter, amountOf, recordSize, handedOut}
 use Rattle.watchtower.specs.Plan.{planOf, planAfter, planUnlock, joined, Below, Within, PairBelow, Paired}
-use Rattle.watchtower.proofs.UpdateLaws.{keep-cons}
-use Rattle.watchtower.proofs.LentLaws.{entries-length, entry-at, entry-room}
+use Rattle.watchtower.proofs.UpdateLaws.{keep-cons, left-length}
+use Rattle.watchtower.proofs.LentLaws.{tracked-length, tracked-at, entries-length, entry-at, entry-room}
 
 -- ---- parts
 
@@ -96,19 +96,6 @@ sets-next o a b i j e f g =
     ∙ sym (sets-append a b o i)
 
 -- ---- the records of a tracked list
-
--- a tracked TLC has one record
-pub tracked-length : (es : List (List ℕ)) → length (trackedRecords es) ≡ length es
-unfolding trackedRecords
-tracked-length [] = refl
-tracked-length (e ∷ es) = ap suc (tracked-length es)
-
--- behind 33 bytes of its entry
-tracked-at : (es : List (List ℕ)) (i : ℕ) → getD (trackedRecords es) i [] ≡ drop 33 (getD es i [])
-unfolding trackedRecords
-tracked-at [] i = sym (drop-nil 33)
-tracked-at (e ∷ es) zero = refl
-tracked-at (e ∷ es) (suc i) = tracked-at es i
 
 -- an entry of a tracked list, as the code has its size
 pub tracked-size : (h : ℕ) → 98 + h ≡ trackedLen h
@@ -355,12 +342,6 @@ pub keep-count : (k n c : ℕ) (rs : List (List ℕ)) → n ≡ length rs → ((
 keep-count k n c rs e (inl x) = (omega (arith, x .0, x .1, keep-but k 0 rs (omega arith) (omega (arith, x .0))), omega (arith, x .1))
 keep-count k n c rs e (inr x) = (omega (arith, x .1, ap length (keep-past k 0 rs (inr (omega (arith, x .0))))), omega (arith, x .1))
 
--- a share has 36 bytes, unlocked or not
-pub left-length : (b : Bool) (s : List ℕ) → length s ≡ 36 → length (shareLeft b s) ≡ 36
-unfolding shareLeft
-left-length true s e = refl
-left-length false s e = e
-
 module _ (rs : List (List ℕ)) (remote local : List ℕ) (p : Plan) where
   -- it is no longer than the state before it
   pub after-size : length remote ≡ 36 → length local ≡ 36 → (length (planAfter rs remote local p) ≤ 73 + length (flat rs)) × (73 ≤ length (planAfter rs remote local p))
@@ -462,20 +443,7 @@ args-puts args hash at o o₁ o₂ o₃ A B C h g eA eB eC e₁ e₂ e₃ =
 
 -- ---- hashes
 
--- eight bytes for each word
-words-length : (l : List ℕ) → length (wordsBytes l) ≡ 8 * length l
-unfolding wordsBytes
-words-length [] = refl
-words-length (x ∷ l) = omega (arith, length-append (leBytes 8 x) (wordsBytes l), leBytes-length 8 x, words-length l)
-
--- a CKB hash has 32 bytes
-ckb-length : (s : List ℕ) → length (ckbHash s) ≡ 32
-unfolding ckbHash blake2b chain params
-ckb-length s =
-    let h = hashed (initial 8 (params 32 ckbPersonal)) s in
-    length-take 32 (wordsBytes h) ∙ omega (arith, words-length h, eight (params 32 ckbPersonal) s _ h refl refl)
-
--- and so has what is equal to one
+-- what is equal to a CKB hash has 32 bytes
 pub hash-length : (s r : List ℕ) → r ≡ ckbHash s → length r ≡ 32
 hash-length s r e = ap length e ∙ ckb-length s
 

@@ -67,9 +67,8 @@ use Rattle.watchtower.specs.Choice.{
 }
 use Rattle.watchtower.specs.Plan as plan·
 use Rattle.watchtower.proofs.UpdateLaws.{part-between}
-use Rattle.watchtower.proofs.LentLaws.{both-false, Along, along-end, along-stop, along-next, entries-length, entry-at, entry-room}
+use Rattle.watchtower.proofs.LentLaws.{both-false, tracked-length, Along, along-end, along-stop, along-next, entries-length, entry-at, entry-room}
 use Rattle.watchtower.proofs.LaterLaws.{by-test, Falls, FoundBelow, counting-below, WalkWithin, PickWithin, onward-within}
-use Rattle.watchtower.proofs.HandedLaws.{tracked-length}
 use Rattle.watchtower.proofs.FirstLaws.{firsts-count}
 
 -- ---- thirds of a delay

@@ -61,7 +61,7 @@ use Rattle.watchtower.specs.Choice.{
 use Rattle.watchtower.specs.Plan.{Within, Below, PairBelow, Paired}
 use Rattle.watchtower.proofs.WitnessLaws.{left, records-length}
 use Rattle.watchtower.proofs.UpdateLaws.{marks-marked, keep-cons, part-between}
-use Rattle.watchtower.proofs.LentLaws.{unlike, Along, along-end, along-stop, along-next, part-part, part-behind, record-at, entries-length, entry-at, entry-room, entries-cons}
+use Rattle.watchtower.proofs.LentLaws.{unlike, Along, along-end, along-stop, along-next, part-part, part-behind, record-at, tracked-length, entries-length, entry-at, entry-room, entries-cons}
 
 -- ---- the delay
 
@@ -457,12 +457,6 @@ module _ (a : Around) where
 lists-short : (a b : List (List ℕ)) → (length a ≡ length b → ⊥) → false ≡ sameLists a b
 unfolding sameLists
 lists-short = unlike same sameLists (λ y b. refl) (λ x a. refl) (λ x y a b. refl)
-
--- as many records as TLCs
-tracked-length : (ts : List (List ℕ)) → length (trackedRecords ts) ≡ length ts
-unfolding trackedRecords
-tracked-length [] = refl
-tracked-length (t ∷ ts) = ap suc (tracked-length ts)
 
 -- the records that stand, from place i on
 abbrev stand : ℕ → List ℕ → ℕ → List Bool → ℕ → List (List ℕ)

@@ -9,12 +9,12 @@ use mathlib.Core.Bool.{Bool, true, false, cond}
 use mathlib.Core.List.{List, [], _∷_}
 use lib.Dec.{eqb}
 use lib.ListN.{length, getD, take, drop, drop-of-length-le, length-take, length-drop}
-use lib.Seq.{drop-cons, drop-drop, getD-take, getD-drop, take-take, take-all}
+use lib.Seq.{drop-cons, drop-drop, drop-nil, getD-take, getD-drop, take-take, take-all}
 use borrow.Author.Tests.{eq-eqb, ne-eqb, le-leb, lt-leb}
 use Rattle.fiber_bytes.specs.Bytes.{part}
 use Rattle.fiber_types.specs.declared.tlc.Amount.{Amount}
 use Rattle.watchtower.specs.Witness.{records}
-use Rattle.watchtower.specs.Lent.{same, entries, all, settlementLen, settlementWell, trackedWell}
+use Rattle.watchtower.specs.Lent.{same, entries, all, settlementLen, settlementWell, trackedRecord, trackedRecords, trackedWell}
 use Rattle.watchtower.specs.First.{Data, dataWell}
 use Rattle.watchtower.proofs.WitnessLaws.{records-length}
 
@@ -27,6 +27,26 @@ both-false false = refl
 pub both-true : (x : Bool) → cond x true false ≡ x
 both-true true = refl
 both-true false = refl
+
+-- two tests that are both true
+pub both-split : (x y : Bool) → cond x y false ≡ true → (x ≡ true) × (y ≡ true)
+both-split true y e = (refl, e)
+both-split false y e = let z : _≡_ {A = ℕ} 0 1 = cc in absurd (omega arith)
+
+-- ---- the records of a tracked list
+
+-- a tracked TLC has one record
+pub tracked-length : (es : List (List ℕ)) → length (trackedRecords es) ≡ length es
+unfolding trackedRecords
+tracked-length [] = refl
+tracked-length (e ∷ es) = ap suc (tracked-length es)
+
+-- behind 33 bytes of its entry
+pub tracked-at : (es : List (List ℕ)) (i : ℕ) → getD (trackedRecords es) i [] ≡ trackedRecord (getD es i [])
+unfolding trackedRecords
+tracked-at [] i = sym (drop-nil 33)
+tracked-at (e ∷ es) zero = refl
+tracked-at (e ∷ es) (suc i) = tracked-at es i
 
 -- ---- equal bytes
 

@@ -373,10 +373,10 @@ module _ (h : ℕ) (w : List ℕ) (n : ℕ) (marks : List Bool) (out₀ out : Li
 -- ---- the state left
 
 -- a share has 36 bytes, unlocked or not
-pub share-length : (b : Bool) (w : List ℕ) (from : ℕ) → from + 36 ≤ length w → length (shareLeft b (part w from 36)) ≡ 36
+pub left-length : (b : Bool) (s : List ℕ) → length s ≡ 36 → length (shareLeft b s) ≡ 36
 unfolding shareLeft
-share-length true w from h = refl
-share-length false w from h = part-length w from 36 h
+left-length true s e = refl
+left-length false s e = e
 
 module _ (h : ℕ) (w : List ℕ) (n share : ℕ) (t : Taken) (g : share + 72 ≤ length w) where
   -- the count, the records that stand, and two shares
@@ -384,7 +384,7 @@ module _ (h : ℕ) (w : List ℕ) (n share : ℕ) (t : Taken) (g : share + 72 �
   unfolding stateLeft stateBytes
   state-length =
       simp length-append
-      (omega (arith, share-length (t .remote) w share (omega arith), share-length (t .local) w (share + 36) (omega arith)))
+      (omega (arith, left-length (t .remote) (part w share 36) (part-length w share 36 (omega arith)), left-length (t .local) (part w (share + 36) 36) (part-length w (share + 36) 36 (omega arith))))
 
   -- the four writes of the state are one
   pub state-writes : (k at : ℕ) (out o₁ o₂ o₃ : List ℕ) → k ≡ length (standing h w n (t .settled)) → at ≡ 1 + length (flat (standing h w n (t .settled)))
@@ -397,7 +397,7 @@ module _ (h : ℕ) (w : List ℕ) (n share : ℕ) (t : Taken) (g : share + 72 �
       let F : List ℕ = k ∷ flat (standing h w n (t .settled)) in
       let R = shareLeft (t .remote) (part w share 36) in
       let L = shareLeft (t .local) (part w (share + 36) 36) in
-      let m : length R ≡ 36 = share-length (t .remote) w share (omega arith) in
+      let m : length R ≡ 36 = left-length (t .remote) (part w share 36) (part-length w share 36 (omega arith)) in
       let a : at ≡ length F = omega arith in
       let b : at + 36 ≡ length (F ++ R) = omega (arith, length-append F R) in
       sets-then out (F ++ R) L (at + 36) (sets-then out F R at e₁ e₂ a) e₃ b

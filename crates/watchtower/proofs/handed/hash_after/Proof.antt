@@ -12,7 +12,8 @@ use Rattle.watchtower.specs.Update.{keep}
 use Rattle.watchtower.specs.Lent.{entries, trackedLen}
 use Rattle.watchtower.specs.Plan.{planAfter}
 use Rattle.watchtower.specs.Witness.{flat}
-use Rattle.watchtower.proofs.HandedLaws.{Landed, tlcs, tlcs-length, tracked-length, keep-count, after-size, after-remote, after-local, after-none, landed, read-back}
+use Rattle.watchtower.proofs.LentLaws.{tracked-length}
+use Rattle.watchtower.proofs.HandedLaws.{Landed, tlcs, tlcs-length, keep-count, after-size, after-remote, after-local, after-none, landed, read-back}
 use Rattle.watchtower.proofs.handed.hash_after.Reads as reads
 use Rattle.watchtower.proofs.handed.hash_after.Lts as lts
 use Rattle.watchtower.proofs.handed.put_state.Reads as put-state-reads

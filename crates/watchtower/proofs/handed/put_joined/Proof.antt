@@ -7,7 +7,8 @@ use lib.ListN.{length}
 use Rattle.fiber_types.specs.Records.{witnessLen}
 use Rattle.watchtower.specs.Plan.{planAfter}
 use Rattle.watchtower.specs.Lent.{entries, trackedLen}
-use Rattle.watchtower.proofs.HandedLaws.{tlcs, tlcs-length, tracked-length, keep-past, hash-length, unlock-place, unlock-room, after-room, before-room, new-room, joined-puts}
+use Rattle.watchtower.proofs.LentLaws.{tracked-length}
+use Rattle.watchtower.proofs.HandedLaws.{tlcs, tlcs-length, keep-past, hash-length, unlock-place, unlock-room, after-room, before-room, new-room, joined-puts}
 use Rattle.watchtower.proofs.handed.put_joined.Reads as reads
 use Rattle.watchtower.proofs.handed.put_joined.Lts as lts
 use Rattle.watchtower.proofs.handed.put_unlock.Reads as put-unlock-reads
