@@ -5,7 +5,8 @@
  * writes number and place and no other byte, success the fields named and no byte beyond them. An answer buffer that is
  * shorter than the operation's answer is answered by the return value FIBER_SETTLEMENT_NOT_WELL alone: nothing is written.
  *
- * The output and the answer buffer of a call must not overlap each other, nor anything that the call reads.
+ * The output and the answer buffer of a call must not overlap each other, nor anything that the call reads. No pointer may be
+ * NULL, not even with length 0.
  */
 #ifndef FIBER_SETTLEMENT_H
 #define FIBER_SETTLEMENT_H
