@@ -186,6 +186,10 @@ pub record Around : Type 0 where
   pub tlcs : List (List ℕ)
   pub pairs : List (List ℕ)
 
+-- of lists as they are lent
+abbrev pub aroundOf : ℕ → Bool → ℕ → List ℕ → List ℕ → Around
+aroundOf h forRemote time tlcs preimages = record { h = h; forRemote = forRemote; time = time; tlcs = entries settlementLen tlcs; pairs = entries pairLen preimages }
+
 unfoldable pub around : Case → Around
 around c = record { h = c .h; forRemote = c .forRemote; time = c .time; tlcs = settlementTlcs c; pairs = pairs c }
 

@@ -161,7 +161,7 @@ fn later_step(
     pending: usize,
 ) -> Walk
     requires { ⌜ (h ≤ 32) × ((length (now tracked) ≡ 98 + h) × (0 < pending)) ⌝ }
-    ensures { λ r. ⌜ r ≡ S.laterStep (record { h = h; forRemote = «for_remote»; time = time; tlcs = entries settlementLen (now (tlcs .entry)); pairs = entries pairLen (now (preimages .entry)) }) place pending (now (tracked .entry)) ⌝ }
+    ensures { λ r. ⌜ r ≡ S.laterStep (S.aroundOf h «for_remote» time (now (tlcs .entry)) (now (preimages .entry))) place pending (now (tracked .entry)) ⌝ }
 {
     let tlc = part_of(tracked, 33, 65 + h);
     let Expiry::At(ms) = absolute_expiry(le64(tlc, 57 + h)) else {
@@ -193,7 +193,7 @@ pub fn later_walk(
     tracked: &[u8],
 ) -> Pick
     requires { ⌜ h ≤ 32 ⌝ }
-    ensures { λ r. ⌜ r ≡ S.laterWalk (record { h = h; forRemote = «for_remote»; time = time; tlcs = entries settlementLen (now (tlcs .entry)); pairs = entries pairLen (now (preimages .entry)) }) 0 (length (entries (trackedLen h) (now (tracked .entry)))) (entries (trackedLen h) (now (tracked .entry))) ⌝ }
+    ensures { λ r. ⌜ r ≡ S.laterWalk (S.aroundOf h «for_remote» time (now (tlcs .entry)) (now (preimages .entry))) 0 (length (entries (trackedLen h) (now (tracked .entry)))) (entries (trackedLen h) (now (tracked .entry))) ⌝ }
 {
     let size = 98 + h;
     let n = tracked.len() / size;
@@ -309,7 +309,7 @@ fn later_pick(
     other: [u8; 36],
 ) -> Pick
     requires { ⌜ h ≤ 32 ⌝ }
-    ensures { λ r. ⌜ r ≡ S.laterPick (record { h = h; forRemote = «for_remote»; time = time; tlcs = entries settlementLen (now (tlcs .entry)); pairs = entries pairLen (now (preimages .entry)) }) (entries (trackedLen h) (now (tracked .entry))) other ⌝ }
+    ensures { λ r. ⌜ r ≡ S.laterPick (S.aroundOf h «for_remote» time (now (tlcs .entry)) (now (preimages .entry))) (entries (trackedLen h) (now (tracked .entry))) other ⌝ }
 {
     let zeros = [0u8; 20];
     if same(part_of(&other, 0, 20), &zeros) {
@@ -336,8 +336,8 @@ fn later_state(
     out: &mut [u8],
 ) -> ChoiceAnswer
     requires { ⌜ (h ≤ 32) × ((n ≤ 255) × ((sharePlace h n ≤ length (now w)) × (36 ≤ length (now args)))) ⌝ }
-    ensures { λ r. ⌜ r ≡ S.afterChosen h (now (args .entry)) (entries (trackedLen h) (now (tracked .entry))) (entries pairLen (now (preimages .entry))) (now (out .entry)) (S.laterState (record { h = h; forRemote = «for_remote»; time = time; tlcs = entries settlementLen (now (tlcs .entry)); pairs = entries pairLen (now (preimages .entry)) }) (now («local_key» .entry)) (entries (trackedLen h) (now (tracked .entry))) (standing h (now (w .entry)) n (marked marks)) (S.unsettled (marked marks) 0 n) remote local) .answer ⌝ }
-    ensures { λ _. ⌜ now (out .exit) ≡ S.afterChosen h (now (args .entry)) (entries (trackedLen h) (now (tracked .entry))) (entries pairLen (now (preimages .entry))) (now (out .entry)) (S.laterState (record { h = h; forRemote = «for_remote»; time = time; tlcs = entries settlementLen (now (tlcs .entry)); pairs = entries pairLen (now (preimages .entry)) }) (now («local_key» .entry)) (entries (trackedLen h) (now (tracked .entry))) (standing h (now (w .entry)) n (marked marks)) (S.unsettled (marked marks) 0 n) remote local) .bytes ⌝ }
+    ensures { λ r. ⌜ r ≡ S.afterChosen h (now (args .entry)) (entries (trackedLen h) (now (tracked .entry))) (entries pairLen (now (preimages .entry))) (now (out .entry)) (S.laterState (S.aroundOf h «for_remote» time (now (tlcs .entry)) (now (preimages .entry))) (now («local_key» .entry)) (entries (trackedLen h) (now (tracked .entry))) (standing h (now (w .entry)) n (marked marks)) (S.unsettled (marked marks) 0 n) remote local) .answer ⌝ }
+    ensures { λ _. ⌜ now (out .exit) ≡ S.afterChosen h (now (args .entry)) (entries (trackedLen h) (now (tracked .entry))) (entries pairLen (now (preimages .entry))) (now (out .entry)) (S.laterState (S.aroundOf h «for_remote» time (now (tlcs .entry)) (now (preimages .entry))) (now («local_key» .entry)) (entries (trackedLen h) (now (tracked .entry))) (standing h (now (w .entry)) n (marked marks)) (S.unsettled (marked marks) 0 n) remote local) .bytes ⌝ }
 {
     let k = count_standing(marks, n);
     if 254 < k {
@@ -404,8 +404,8 @@ pub fn choose_later(
     out: &mut [u8],
 ) -> ChoiceAnswer
     requires { ⌜ (h ≤ 32) × (36 ≤ length (now args)) ⌝ }
-    ensures { λ r. ⌜ r ≡ S.afterChosen h (now (args .entry)) (entries (trackedLen h) (now (tracked .entry))) (entries pairLen (now (preimages .entry))) (now (out .entry)) (S.later (record { h = h; forRemote = «for_remote»; time = time; tlcs = entries settlementLen (now (tlcs .entry)); pairs = entries pairLen (now (preimages .entry)) }) (now («local_key» .entry)) (entries (trackedLen h) (now (tracked .entry))) (now (w .entry))) .answer ⌝ }
-    ensures { λ _. ⌜ now (out .exit) ≡ S.afterChosen h (now (args .entry)) (entries (trackedLen h) (now (tracked .entry))) (entries pairLen (now (preimages .entry))) (now (out .entry)) (S.later (record { h = h; forRemote = «for_remote»; time = time; tlcs = entries settlementLen (now (tlcs .entry)); pairs = entries pairLen (now (preimages .entry)) }) (now («local_key» .entry)) (entries (trackedLen h) (now (tracked .entry))) (now (w .entry))) .bytes ⌝ }
+    ensures { λ r. ⌜ r ≡ S.afterChosen h (now (args .entry)) (entries (trackedLen h) (now (tracked .entry))) (entries pairLen (now (preimages .entry))) (now (out .entry)) (S.later (S.aroundOf h «for_remote» time (now (tlcs .entry)) (now (preimages .entry))) (now («local_key» .entry)) (entries (trackedLen h) (now (tracked .entry))) (now (w .entry))) .answer ⌝ }
+    ensures { λ _. ⌜ now (out .exit) ≡ S.afterChosen h (now (args .entry)) (entries (trackedLen h) (now (tracked .entry))) (entries pairLen (now (preimages .entry))) (now (out .entry)) (S.later (S.aroundOf h «for_remote» time (now (tlcs .entry)) (now (preimages .entry))) (now («local_key» .entry)) (entries (trackedLen h) (now (tracked .entry))) (now (w .entry))) .bytes ⌝ }
 {
     match witness::read(h, w) {
         WitnessRead::Refused { number, place } => ChoiceAnswer::Refused { number, place },
