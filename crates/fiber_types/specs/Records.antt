@@ -23,14 +23,18 @@ pub record Outcome : Type 0 where
   pub answer : Written
   pub bytes : List ℕ
 
+-- turned down: the output is as it was
+abbrev pub refused : ℕ → ℕ → List ℕ → Outcome
+refused number place out = record { answer = written·.Refused number place; bytes = out }
+
 -- bytes to the front of an output: 14 where what they are made of does not fit the layout, then 13, at the bytes needed
 unfoldable pub outcome : Bool → List ℕ → List ℕ → Outcome
 outcome fits bytes out =
     cond fits
     (cond (leb (length bytes) (length out))
     (record { answer = written·.Bytes (length bytes); bytes = sets out 0 bytes })
-    (record { answer = written·.Refused 13 (length bytes); bytes = out }))
-    (record { answer = written·.Refused 14 0; bytes = out })
+    (refused 13 (length bytes) out))
+    (refused 14 0 out)
 
 -- ---- amounts: 16 bytes, as two halves of 64 bits
 

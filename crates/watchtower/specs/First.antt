@@ -5,9 +5,8 @@ use mathlib.Core.List.{List, [], _∷_, _++_}
 use lib.ListN.{length, take}
 use lib.Dec.{eqb, leb}
 use Rattle.fiber_bytes.specs.Bytes.{leBytes}
-use Rattle.fiber_types.specs.declared.answer.Written.the-variants as written·
 use Rattle.fiber_types.specs.declared.tlc.Amount.{Amount}
-use Rattle.fiber_types.specs.Records.{Outcome, outcome, known, amountAt, tlcBytes}
+use Rattle.fiber_types.specs.Records.{Outcome, refused, outcome, known, amountAt, tlcBytes}
 use Rattle.fiber_types.specs.Key.{keyHash}
 use Rattle.watchtower.specs.Witness.{stateBytes}
 use Rattle.watchtower.specs.Lent.{
@@ -85,9 +84,6 @@ firstLocal forRemote d = cond forRemote (shareBytes (d .localKey) (d .localAmoun
 
 unfoldable pub firstState : ℕ → Bool → Data → List ℕ
 firstState h forRemote d = stateBytes (firstRecords h forRemote (entries settlementLen (d .tlcs))) (firstRemote forRemote d) (firstLocal forRemote d)
-
-abbrev pub refused : ℕ → ℕ → List ℕ → Outcome
-refused number place out = record { answer = written·.Refused number place; bytes = out }
 
 -- 14, 12 above 255 settlement TLCs, 13
 unfoldable pub wroteFirst : ℕ → Bool → Data → List ℕ → Outcome

@@ -5,9 +5,7 @@ use mathlib.Core.List.{List, [], _∷_}
 use lib.ListN.{getD, drop, replicate}
 use lib.Dec.{ltb, eqb}
 use Rattle.fiber_bytes.specs.Bytes.{part}
-use Rattle.fiber_types.specs.declared.answer.Written.{Written}
-use Rattle.fiber_types.specs.declared.answer.Written.the-variants as written·
-use Rattle.fiber_types.specs.Records.{Outcome, outcome}
+use Rattle.fiber_types.specs.Records.{Outcome, refused, outcome}
 use Rattle.watchtower.specs.declared.witness.WitnessRead.{WitnessRead}
 use Rattle.watchtower.specs.declared.witness.WitnessRead.the-variants as read·
 use Rattle.watchtower.specs.declared.update.Verdict.{Verdict}
@@ -67,9 +65,6 @@ stateLeft h w n share t =
     stateBytes (standing h w n (t .settled)) (shareLeft (t .remote) (part w share 36)) (shareLeft (t .local) (part w (share + 36) 36))
 
 -- ---- the update
-
-abbrev pub refused : ℕ → ℕ → List ℕ → Outcome
-refused number place out = record { answer = written·.Refused number place; bytes = out }
 
 unfoldable pub afterVerdict : ℕ → List ℕ → List ℕ → ℕ → ℕ → Taken → Verdict → Outcome
 afterVerdict h w out n share t verdict·.Fine = outcome true (stateLeft h w n share t) out
