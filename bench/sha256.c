@@ -1,4 +1,4 @@
-/* SHA-256 in plain C, no intrinsics, in the shape of crates/fiber_types/src/sha256.rt: eight turns to a loop's body, the
+/* SHA-256 in plain C, no intrinsics, in the shape of crates/fiber_sha256/src/sha256.rt: eight turns to a loop's body, the
    working variables renamed and not moved, the schedule's words made beside the turns. The benchmark's baseline, compiled
    by gcc -O3; its digests are compared with OpenSSL's. */
 #include <stddef.h>

@@ -3,7 +3,7 @@
 //!
 //! FIBER_SRC names the reference: a checkout of nervosnetwork/fiber at 21c4dfbdbd, or a folder in which that
 //! checkout's file `a/b/c.rs` is called `src--a--b--c.rs.txt`. Nothing of the reference is kept in this package.
-//! SETTLEMENT_LIB names the folder that holds libsettlement_c.a.
+//! SETTLEMENT_LIB names the folder that holds libtypes_c.a and libsettlement_c.a (tools/libraries writes them).
 
 mod scan;
 
@@ -12,7 +12,10 @@ use std::collections::BTreeMap;
 use std::path::{Path, PathBuf};
 use std::{env, fs, process};
 
-/// The port's exports that the oracle can call. One that the library lacks is left out of the build: its kind then
+/// The port's libraries: the C interface of the lower face, and that of the upper one.
+const LIBRARIES: &[&str] = &["types_c", "settlement_c"];
+
+/// The port's exports that the oracle can call. One that the libraries lack is left out of the build: its kind then
 /// says so when it is asked for. src/port.rs declares them.
 const EXPORTS: &[&str] = &[
     "fiber_test_mul",
@@ -224,7 +227,7 @@ fn main() {
     write(&out.join("tokens.tsv"), &answering.tokens);
     say_lines(&[answering, caller]);
 
-    link(&folder("SETTLEMENT_LIB", "the folder of libsettlement_c.a"));
+    link(&folder("SETTLEMENT_LIB", "the folder of libtypes_c.a and libsettlement_c.a"));
 }
 
 /// One line for each file: which of its lines were taken. Cargo shows it at every build.
@@ -267,24 +270,29 @@ fn write(path: &Path, text: &str) {
     }
 }
 
-/// Links the port's library and tells the crate, by `cfg(port_has = "..")`, which exports it has.
+/// Links the port's libraries and tells the crate, by `cfg(port_has = "..")`, which exports they have.
 fn link(folder: &Path) {
-    let library = folder.join("libsettlement_c.a");
-    println!("cargo:rerun-if-changed={}", library.display());
-    let bytes = match fs::read(&library) {
-        Ok(bytes) => bytes,
-        Err(e) => {
-            fail(&format!("SETTLEMENT_LIB has no readable libsettlement_c.a ({}: {e}).", library.display()))
-        }
-    };
     println!("cargo:rustc-link-search=native={}", folder.display());
-    println!("cargo:rustc-link-lib=static=settlement_c");
-    let Some(symbols) = symbols(&bytes) else {
-        fail(&format!("{} is no archive with an index of its symbols (GNU's format).", library.display()));
-    };
+    let mut archives = Vec::new();
+    for name in LIBRARIES {
+        let library = folder.join(format!("lib{name}.a"));
+        println!("cargo:rerun-if-changed={}", library.display());
+        println!("cargo:rustc-link-lib=static={name}");
+        match fs::read(&library) {
+            Ok(bytes) => archives.push((library, bytes)),
+            Err(e) => fail(&format!("SETTLEMENT_LIB has no readable lib{name}.a ({}: {e}).", library.display())),
+        }
+    }
+    let mut exported = Vec::new();
+    for (library, bytes) in &archives {
+        let Some(symbols) = symbols(bytes) else {
+            fail(&format!("{} is no archive with an index of its symbols (GNU's format).", library.display()));
+        };
+        exported.extend(symbols);
+    }
     for name in EXPORTS {
         println!("cargo:rustc-check-cfg=cfg(port_has, values(\"{name}\"))");
-        if symbols.contains(&name.as_bytes()) {
+        if exported.contains(&name.as_bytes()) {
             println!("cargo:rustc-cfg=port_has=\"{name}\"");
         }
     }

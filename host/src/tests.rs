@@ -146,8 +146,9 @@ fn every_number_has_a_sentence_of_its_own() {
 mod choices {
     use super::*;
 
+    /// The bytes of a byte string of the list, whose first letter is its mark.
     fn unhex(text: &str) -> Vec<u8> {
-        let digits = if text == "-" { "" } else { text };
+        let digits = text.strip_prefix('x').expect("a byte string");
         (0..digits.len())
             .step_by(2)
             .map(|at| u8::from_str_radix(&digits[at..at + 2], 16).expect("hex"))
@@ -159,16 +160,15 @@ mod choices {
     fn line(line: &str) -> bool {
         let (input, answer) = line.split_once(" = ").expect("an answer");
         let mut fields = input.split(' ').skip(1);
-        let mut text = || fields.next().expect("a field");
-        let [args, tlcs, local_key, remote_key, tracked, preimages, witness] =
-            [(); 7].map(|()| unhex(text()));
-        let mut number = || text().parse::<u64>().expect("a number");
+        let mut number = || fields.next().expect("a field").parse::<u64>().expect("a number");
+        let length = number() as usize;
         let (h, for_remote, is_later, time) = (number(), number() == 1, number() == 1, number());
         let mut epoch = || Epoch { number: number(), index: number(), length: number() };
         let (header, current) = (epoch(), epoch());
         let mut amount = || u128::from(number()) | u128::from(number()) << 64;
         let (local_amount, remote_amount) = (amount(), amount());
-        let length = number() as usize;
+        let [args, tlcs, local_key, remote_key, tracked, preimages, witness] =
+            [(); 7].map(|()| unhex(fields.next().expect("a field")));
         let (Ok(local_key), Ok(remote_key)) = (local_key[..].try_into(), remote_key[..].try_into()) else {
             return false;
         };
@@ -191,7 +191,7 @@ mod choices {
         let mut out = vec![0x55; length + 10];
         let chosen = choose(&request, &mut out[..length]);
         let told = match chosen {
-            Err(refusal) => format!("refused {} {}", refusal.number, refusal.place),
+            Err(refusal) => format!("{0} {0} {1}", refusal.number, refusal.place),
             Ok(chosen) => as_told(&request, &chosen),
         };
         assert_eq!(told, answer);
@@ -222,16 +222,16 @@ mod choices {
         let record = chosen.record.as_ptr() as usize - slice.as_ptr() as usize;
         let hex = |bytes: &[u8]| bytes.iter().map(|byte| format!("{byte:02x}")).collect::<String>();
         format!(
-            "{}{}{} {kind} {byte} {} {} {key} {delay} {record} {} {} {} {} {pair}",
-            hex(chosen.unlock),
-            hex(chosen.state),
-            hex(chosen.new_args),
+            "0 0 0 {kind} {byte} {} {} {key} {delay} {record} {} {} {} {} {pair} : x{}{}{}",
             chosen.amount as u64,
             (chosen.amount >> 64) as u64,
             chosen.record.len(),
             chosen.unlock.len(),
             chosen.state.len(),
-            chosen.new_args.len()
+            chosen.new_args.len(),
+            hex(chosen.unlock),
+            hex(chosen.state),
+            hex(chosen.new_args)
         )
     }
 

@@ -36,12 +36,14 @@ pub trait Kind {
     const EXPORT: Option<(&'static str, bool)> = None;
     /// How many lines of the dump are its own.
     const DUMP_LINES: usize;
-    /// Does the dump tell document 01's rows, with number and place, those outside the equality among them?
+    /// Does the dump tell document 01's rows outside the equality too? The Rust is not asked there.
     const DUMP_ROWS: bool = false;
     /// How many of them at most tell one class of values, or one row.
     const DUMP_ALIKE: usize = usize::MAX;
     /// What its lines of the dump begin with. Of the kinds that have lines no two begin alike.
     const DUMP_NAME: &'static str = Self::NAME;
+    /// What the dump tells of a value before its fields: the status, and of the answer buffer number and place.
+    const DUMP_FRONT: &'static str = "0 0 0";
 
     /// Inputs picked by hand, the most telling first.
     fn edges() -> Vec<Self::Input>;
@@ -79,8 +81,13 @@ pub trait Kind {
         "values"
     }
 
-    /// As in the dump.
+    /// The length of the output buffer that the dump lends; 0 where the call has none.
+    fn dump_output(_input: &Self::Input) -> usize {
+        0
+    }
+    /// As in the dump: what the call over C is handed, in its order, the numbers before the byte strings.
     fn show_input(input: &Self::Input) -> String;
+    /// As in the dump: the answer's fields; where bytes go to an output buffer, `:` and these.
     fn show_value(value: &Self::Value) -> String;
 }
 
@@ -190,10 +197,7 @@ fn any_epoch(random: &mut Random) -> Epoch {
     e
 }
 
+/// A byte string: the letter tells it from a number.
 fn hex(bytes: &[u8]) -> String {
-    if bytes.is_empty() {
-        "-".to_string()
-    } else {
-        crate::shim::hex::encode(bytes)
-    }
+    format!("x{}", crate::shim::hex::encode(bytes))
 }

@@ -238,29 +238,36 @@ const DUMP_HEADER: &str = "\
 # Made by `oracle dump --seed SEED` (oracle/README.md). SHA-256 of the reference's text that answered:
 # DIGEST
 #
-# One case per line: kind, inputs, `=`, answers, parted by single blanks. Lines that begin with # are comments.
-# Numbers are decimal, byte strings lower-case hex, `-` is the empty byte string. The answer `none` is the Rust's
-# None: for `mul` a refusal, whose number the Rust does not tell (7 or 8 in document 01), for `expiry` no expiry.
-# `refused`, in lines of `read`, `update`, `first` and `pick`, is a refusal or a wait (20, 21, 22) with number and place
-# from document 01's table: the Rust turns these inputs down or waits too, without number or place; but for 6, 7, 13 and
-# 14, and 10 of args of 28 to 35 bytes, for which it is not asked.
+# One case per line: kind; length of the output buffer, 0 where the call has none; the other inputs; `=`; status; what
+# the answer buffer holds; and, where the output buffer is written, `:` and what it begins with. All in the order of the
+# call over C, parted by single blanks. Numbers are decimal, in the answer buffer eight bytes with the low byte first;
+# byte strings are `x` and lower-case hex. Bytes of both buffers that a line does not tell stay as they were. The lines
+# of a kind stand together. Lines that begin with # are comments.
 #
-#   mul     number index length numerator denominator = number index length, or none
+# An answer buffer begins with number and place. A taken input is 0 0 0, status, number and place, and then the fields
+# told below: these and the output are the Rust's answer, laid out as the C interface does, with the lengths of outputs
+# and whether there is an expiry. Three numbers alone are a refusal or a wait (20, 21, 22), status, number and place. The
+# status is the number, and number and place are from document 01's table, as the Rust tells neither: in lines of `mul`
+# it says None to the same inputs; in lines of `read`, `update`, `first` and `pick` it turns them down or waits too, but
+# for 6, 7, 13 and 14, and 10 of args of 28 to 35 bytes, for which it is not asked. `ckb` and `sha256` have no answer
+# buffer and no status, and 0 is in the status's place.
+#
+#   mul     number index length numerator denominator = number index length
 #   due     header, delay and current, each as number index length = 1 if due, else 0
-#   expiry  since = milliseconds, or none
+#   expiry  since = 1 milliseconds, or 0 0 for the Rust's None
 #   key     public key, 33 bytes = key hash, 20 bytes
-#   ckb     message = CKB hash, 32 bytes
-#   sha256  message = SHA-256, 32 bytes
-#   read    h witness = n, number of unlocks, places of the share part and the first unlock; or refused number place
-#   update  h witness, length of the output buffer = the state left; or refused number place
-#   first   settlement TLCs, local key, remote key, h for_remote, local amount and remote amount (each low half, high
-#           half), length of the output buffer = the first state; or refused number place
-#   pick    the choice: args, settlement TLCs, local key, remote key, tracked list, pairs, witness, h for_remote is_later
-#           time, header and current (each number index length), local amount and remote amount (each low half, high
-#           half), length of the output buffer = unlock, state and new args as one byte string, then kind byte, amount
-#           (low half, high half), key kind, key place, delay kind, delay (number index length), record (place length),
-#           lengths of unlock, state and new args, place of the pair; or refused number place. Record and place of the
-#           pair are document 01's, as the Rust does not tell them.
+#   ckb     message : CKB hash, 32 bytes
+#   sha256  message : SHA-256, 32 bytes
+#   read    h witness = n, number of unlocks, places of the share part and the first unlock. The places follow from the
+#           state that the Rust writes back, as it tells none.
+#   update  h witness = length of the state left : the state left
+#   first   h for_remote, local amount and remote amount (each low half, high half), settlement TLCs, local key, remote
+#           key = length of the first state : the first state
+#   pick    the choice: h for_remote is_later time, header and current (each number index length), local amount and
+#           remote amount (each low half, high half), args, settlement TLCs, local key, remote key, tracked list, pairs,
+#           witness = kind byte, amount (low half, high half), key kind, key place, delay kind, delay (number index
+#           length), record (place length), lengths of unlock, state and new args, place of the pair : unlock, state and
+#           new args. Record and place of the pair are document 01's, as the Rust does not tell them.
 #
 # Left out are other inputs outside the equality of document 01: what cannot be handed to the Rust (fields beyond their
 # bits, keys of other lengths), whole parts above 16777215, a length of 0 in the due test.

@@ -212,9 +212,13 @@ impl<V: PartialEq> Answers<V> {
             Some(Ok(Reply::Value(value))) => K::show_value(value),
             Some(Ok(Reply::Refused { number, place })) => format!("refused {number} at {place}"),
         };
+        let lent = match K::dump_output(input) {
+            0 => String::new(),
+            length => format!(", output buffer of {length} bytes"),
+        };
         let input = K::show_input(input);
         format!(
-            "  input:       {input}\n  document 01: {document}\n  the Rust:    {rust}\n  the port:    {port}"
+            "  input:       {input}{lent}\n  document 01: {document}\n  the Rust:    {rust}\n  the port:    {port}"
         )
     }
 }
@@ -296,8 +300,8 @@ pub fn one<K: Kind>(seed: u64, case: u64, port: bool) -> bool {
     faults.is_empty()
 }
 
-/// Lines `kind inputs = answer` with the Rust's answers: the edges first, then random inputs. With `DUMP_ROWS` a row
-/// is told by document 01's number and place, and the Rust has to turn it down too where it can be asked.
+/// Lines `kind inputs = answer` with the Rust's answers: the edges first, then random inputs. A row is told by
+/// document 01's number and place, and the Rust has to turn it down too where it can be asked.
 pub fn dump<K: Kind>(seed: u64) -> Vec<String> {
     let random = (0..).map(|case| K::random_for_dump(&mut Random::of(seed, K::NAME, case)));
     let mut seen = HashSet::new();
@@ -311,19 +315,17 @@ pub fn dump<K: Kind>(seed: u64) -> Vec<String> {
             let asked = document.inside() && !K::not_shown(&input);
             let rust = asked.then(|| calls::caught(|| K::rust(&input)));
             let answer = match (rust, document) {
-                (None | Some(Rust::TurnedDown), Document::Row(row, place)) if K::DUMP_ROWS => {
-                    format!("refused {} {place}", row.number)
+                (Some(Rust::Value(value)), _) => format!("{} {}", K::DUMP_FRONT, K::show_value(&value)),
+                // The status, and of the answer buffer number and place.
+                (None, Document::Row(row, place)) if K::DUMP_ROWS => format!("{0} {0} {place}", row.number),
+                (Some(Rust::TurnedDown), Document::Row(row, place)) => format!("{0} {0} {place}", row.number),
+                (Some(Rust::Wait(number)), Document::Row(row, place)) if number == row.number => {
+                    format!("{number} {number} {place}")
                 }
-                (Some(Rust::Wait(number)), Document::Row(row, place))
-                    if K::DUMP_ROWS && number == row.number =>
-                {
-                    format!("refused {number} {place}")
-                }
-                (Some(Rust::Value(value)), _) => K::show_value(&value),
-                (Some(Rust::TurnedDown), _) => "none".to_string(),
-                (None | Some(Rust::Wait(_) | Rust::Panicked(_) | Rust::NotModelled(_)), _) => return None,
+                _ => return None,
             };
-            let line = format!("{} {} = {answer}", K::DUMP_NAME, K::show_input(&input));
+            let output = K::dump_output(&input);
+            let line = format!("{} {output} {} = {answer}", K::DUMP_NAME, K::show_input(&input));
             if !seen.insert(line.clone()) {
                 return None;
             }

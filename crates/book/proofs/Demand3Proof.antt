@@ -12,11 +12,14 @@ use lib.Seq.{drop-cons}
 use lib.Dec.{eqb}
 use borrow.Author.Tests.{ne-eqb, eqb-false}
 use Rattle.fiber_types.specs.Records.{known}
-use Rattle.watchtower.specs.Witness.{stateBytes, member}
-use Rattle.watchtower.specs.Update.{none, keep, shareLeft}
-use Rattle.book.specs.Book.{shareAmount, Book, unpaid, bytesOf, stateOf, fresh, tlcsIn, remoteIn, localIn, opening, enter, Payment, payments}
+use Rattle.fiber_witness.specs.Witness.{stateBytes, member}
+use Rattle.fiber_witness.specs.Update.{none, keep}
+use Rattle.fiber_witness.proofs.WitnessLaws.{member-none, member-more}
+use Rattle.fiber_witness.proofs.UpdateLaws.{share-kept}
+use Rattle.fiber_witness.proofs.StateLaws.{state-tlcs, state-remote, state-local}
+use Rattle.book.specs.Book.{shareAmount, amounts, Book, unpaid, bytesOf, stateOf, fresh, tlcsIn, remoteIn, localIn, opening, enter, Payment, payments}
 use Rattle.book.specs.Demand3.{Lent, OfChannel, no-call, one-more, FirstState, exported, kept, results, states, left, fed, seen, bookResults, bookStates, closing, unlocksOf, remain, accepted, firstsLeft, paid, placesFrom, total, recordsAt, Rising, rising-none, rising-more, worth, Holds, Demand3}
-use Rattle.book.proofs.StateLaws.{state-tlcs, state-remote, state-local, first-count, first-sound, first-state}
+use Rattle.book.proofs.StateLaws.{first-count, first-sound, first-state}
 use Rattle.book.proofs.BookLaws.{standingOf, SoundBook, after, Stays, Moves, witness, unlocks, judged, paymentsOf, turn, turn-kept, turn-sound, back-marked}
 use Rattle.book.proofs.PaymentsLaws.{Account, worthOf, Pays, pays-none, pays-append, append-total, once-stood, once-gone, Goes, goes, goes-remain, unsettled-none, recordsAt-length, recordsAt-keep, goes-pays}
 
@@ -36,20 +39,24 @@ record Agrees (h : ℕ) (rs : List (List ℕ)) (s : List ℕ) (b : Book) (firsts
 -- the parts of the state are the book's
 module _ {h : ℕ} {rs : List (List ℕ)} {s : List ℕ} {b : Book} {firsts : List ℕ} (a : Agrees h rs s b firsts) where
   tlcs-are : tlcsIn h s ≡ standingOf b
-  unfolding stateOf
+  unfolding stateOf tlcsIn
   tlcs-are = ap (tlcsIn h) (a .state) ∙ state-tlcs (a .sound)
 
   remote-is : remoteIn h s ≡ b .remote
-  unfolding stateOf
+  unfolding stateOf remoteIn
   remote-is = ap (remoteIn h) (a .state) ∙ state-remote (a .sound)
 
   local-is : localIn h s ≡ b .local
-  unfolding stateOf
+  unfolding stateOf localIn
   local-is = ap (localIn h) (a .state) ∙ state-local (a .sound)
 
   worth-is : worth h s ≡ worthOf rs (account b firsts)
   unfolding worth worthOf
-  worth-is = rw (tlcs-are, remote-is, local-is, a .records)
+  worth-is =
+      let t : amounts (tlcsIn h s) ≡ amounts (recordsAt rs firsts) = ap amounts (tlcs-are ∙ a .records) in
+      let r : shareAmount (remoteIn h s) ≡ shareAmount (b .remote) = ap shareAmount remote-is in
+      let l : shareAmount (localIn h s) ≡ shareAmount (b .local) = ap shareAmount local-is in
+      omega (arith, t, r, l)
 
 -- ---- one call
 
@@ -73,7 +80,7 @@ module _ (h : ℕ) (rs : List (List ℕ)) (b : Book) (firsts : List ℕ) (a : Ag
   -- an accepted call: the TLCs that stand, the payments, the sum
   moved-after : Goes (length firsts) none (unlocksOf (stateOf b) c) (judged b c .taken)
       → Moved rs b firsts (counted h (stateOf b) firsts c) (after b (judged b c .taken) (b .paid + total (paymentsOf b c firsts))) (remain (unlocksOf (stateOf b) c) 0 firsts)
-  unfolding unlocksOf shareLeft
+  unfolding unlocksOf
   moved-after g =
       let t = judged b c .taken in
       let e = goes-remain g refl firsts in
@@ -81,7 +88,7 @@ module _ (h : ℕ) (rs : List (List ℕ)) (b : Book) (firsts : List ℕ) (a : Ag
       (record {
         records = back-marked (t .settled) (b .tlcs) 0 ∙ ap (keep (t .settled) 0) (a .records) ∙ recordsAt-keep rs (t .settled) 0 firsts;
         pays =
-            rw (unsettled-none 0 firsts) at
+            rw (unsettled-none 0 firsts, share-kept (b .remote), share-kept (b .local)) at
             (goes-pays rs (standingOf b) firsts (b .remote) (b .local) (a .records) g (rw (unsettled-none 0 firsts) (a .order)));
         sum = refl;
       })
@@ -192,18 +199,18 @@ places-order i zero = rising-none
 places-order i (suc n) = rising-more (le-refl i) (places-order (suc i) n)
 
 places-below : (i n k : ℕ) → i ≤ k → k < i + n → member k (placesFrom i n) ≡ true
-unfolding placesFrom member
+unfolding placesFrom
 places-below i zero k f g = absurd (omega arith)
-places-below i (suc n) k f g = go (eqb k i) refl (λ h. places-below (suc i) n k h (omega arith))
+places-below i (suc n) k f g = rw member-more (go (eqb k i) refl (λ h. places-below (suc i) n k h (omega arith)))
   where
     go : (t : Bool) → eqb k i ≡ t → (suc i ≤ k → member k (placesFrom (suc i) n) ≡ true) → cond t true (member k (placesFrom (suc i) n)) ≡ true
     go true e r = refl
     go false e r = r (omega (arith, eqb-false k i e))
 
 places-beyond : (i n k : ℕ) → i + n ≤ k → member k (placesFrom i n) ≡ false
-unfolding placesFrom member
-places-beyond i zero k f = refl
-places-beyond i (suc n) k f = simp (ne-eqb k i (omega arith)) (places-beyond (suc i) n k (omega arith))
+unfolding placesFrom
+places-beyond i zero k f = member-none k
+places-beyond i (suc n) k f = simp (member-more, ne-eqb k i (omega arith)) (places-beyond (suc i) n k (omega arith))
 
 -- all places of a list have all its records
 places-records : (rs : List (List ℕ)) (i n : ℕ) → i + n ≡ length rs → recordsAt rs (placesFrom i n) ≡ drop i rs

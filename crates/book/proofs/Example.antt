@@ -2,17 +2,16 @@
 -- whom, comes out by computing.
 use Prim.Native.Nat.{ℕ}
 use mathlib.Core.Path.{_≡_, refl}
-use mathlib.Core.Bool.{cond}
 use mathlib.Core.List.{List, [], _∷_, _++_}
 use lib.ListN.{replicate}
 use Rattle.fiber_bytes.specs.Bytes.{le, leBytes}
 use Rattle.fiber_types.specs.Records.{outcome, known}
-use Rattle.watchtower.specs.Witness.{records, flat, stateBytes, member, placesWithin, places, unlessCut, readUnlocks, readShares, readTlcs, readWitness}
-use Rattle.watchtower.specs.Update.{judge, keep, shareLeft, standing, stateLeft, afterVerdict, afterJudged, afterRead, updated}
-use Rattle.settlement_c.specs.Answers.{told, call}
+use Rattle.fiber_witness.specs.Witness.{records, flat, stateBytes, member, placesWithin, places, unlessCut, readUnlocks, readShares, readTlcs, readWitness}
+use Rattle.fiber_witness.specs.Update.{judge, keep, shareLeft, standing, stateLeft, afterVerdict, afterJudged, afterRead, updated}
+use Rattle.types_c.specs.Answers.{told, call}
 use Rattle.settlement_c.specs.Settlement.{saidWritten, outCall, writtenCall, updateCall}
-use Rattle.book.specs.Book.{tlcAmount, shareAmount, tlcsIn, remoteIn, localIn, Payment, remoteShare, localShare, tlc, payments}
-use Rattle.book.specs.Demand3.{Lent, exported, kept, accepted, bytesAt, unlocksOf, settles, remain, firstsLeft, paid, placesFrom, allPaid, allLeft}
+use Rattle.book.specs.Book.{tlcAmount, shareAmount, tlcsIn, remoteIn, localIn, remoteShare, localShare, tlc, payments}
+use Rattle.book.specs.Demand3.{Lent, exported, kept, accepted, bytesAt, unlocksOf, settles, remain, paid, placesFrom, allPaid}
 
 -- a record and a share with an amount below 256
 tlcOf : ℕ → List ℕ

@@ -1,5 +1,4 @@
 -- The proof of the third demand, `demand3` of Demand3Proof.antt.
-pub mod CaseLaws
 pub mod StateLaws
 pub mod BookLaws
 pub mod PaymentsLaws

@@ -9,13 +9,14 @@ use mathlib.Core.List.{List, [], _∷_, _++_}
 use lib.ListN.{length, getD, replicate, length-append, replicate-append-replicate}
 use lib.Dec.{ltb, eqb}
 use borrow.Author.Tests.{lt-ltb, eq-eqb, ne-eqb, ltb-true, eqb-true, eqb-false}
-use Rattle.fiber_bytes.specs.Bytes.{le}
-use Rattle.watchtower.specs.declared.update.Verdict.the-variants as verdict·
-use Rattle.watchtower.specs.Witness.{member}
-use Rattle.watchtower.specs.Update.{Taken, Judged, judge, keep, shareLeft}
+use Rattle.fiber_bytes.proofs.CaseLaws.{by-test}
+use Rattle.fiber_witness.specs.declared.judge.Verdict.the-variants as verdict·
+use Rattle.fiber_witness.specs.Witness.{member}
+use Rattle.fiber_witness.specs.Update.{Taken, Judged, judge, keep, shareLeft}
+use Rattle.fiber_witness.proofs.WitnessLaws.{member-none, member-more}
+use Rattle.fiber_witness.proofs.UpdateLaws.{keep-none, keep-more, judge-none, judge-more, share-taken}
 use Rattle.book.specs.Book.{tlcAmount, shareAmount, amounts, Payee, remoteShare, localShare, tlc, Payment, payments}
 use Rattle.book.specs.Demand3.{bytesAt, settles, remain, toRemote, toLocal, toTlc, paidTo, total, onceOf, shareAfter, recordsAt, Rising, rising-none, rising-more}
-use Rattle.book.proofs.CaseLaws.{by-test}
 use Rattle.book.proofs.BookLaws.{zero-share}
 
 true-false : false ≡ true → ⊥
@@ -101,9 +102,8 @@ pub data Without (f : ℕ) : List ℕ → List ℕ → Type 0 where
 
 -- a list that rises from k on has no place below k
 rising-below : {k : ℕ} {fs : List ℕ} → Rising k fs → (i : ℕ) → i < k → member i fs ≡ false
-unfolding member
-rising-below rising-none i h = refl
-rising-below (rising-more {i = f} g r) i h = simp (ne-eqb i f (omega arith)) (rising-below r i (omega arith))
+rising-below rising-none i h = member-none i
+rising-below (rising-more {i = f} g r) i h = simp (member-more, ne-eqb i f (omega arith)) (rising-below r i (omega arith))
 
 -- and rises from any place before k on
 rising-down : {k : ℕ} {fs : List ℕ} → Rising k fs → (j : ℕ) → j ≤ k → Rising j fs
@@ -114,9 +114,8 @@ rising-down (rising-more {i = i} g r) j h =
 
 -- the place was there
 without-member : {f : ℕ} {fs fs′ : List ℕ} → Without f fs fs′ → member f fs ≡ true
-unfolding member
-without-member {f} here = simp (eq-eqb f f refl)
-without-member {f} (there {g = g} w) = go (eqb f g) (without-member w)
+without-member {f} here = simp (member-more, eq-eqb f f refl)
+without-member {f} (there {g = g} w) = rw member-more (go (eqb f g) (without-member w))
   where
     go : (b : Bool) {x : Bool} → x ≡ true → cond b true x ≡ true
     go true e = refl
@@ -124,9 +123,8 @@ without-member {f} (there {g = g} w) = go (eqb f g) (without-member w)
 
 -- it is there no longer
 without-gone : {f k : ℕ} {fs fs′ : List ℕ} → Without f fs fs′ → Rising k fs → member f fs′ ≡ false
-unfolding member
 without-gone {f} here (rising-more g r) = rising-below r f (omega arith)
-without-gone {f} (there w) (rising-more {i = i} h r) = simp (ne-eqb f i other) (without-gone w r)
+without-gone {f} (there w) (rising-more {i = i} h r) = simp (member-more, ne-eqb f i other) (without-gone w r)
   where
     other : f ≡ i → ⊥
     other e =
@@ -135,9 +133,8 @@ without-gone {f} (there w) (rising-more {i = i} h r) = simp (ne-eqb f i other) (
 
 -- every other place is where it was
 without-other : {f : ℕ} {fs fs′ : List ℕ} → Without f fs fs′ → (i : ℕ) → eqb i f ≡ false → member i fs ≡ member i fs′
-unfolding member
-without-other here i e = simp e
-without-other (there {g = g} w) i e = ap (λ (b : Bool). cond (eqb i g) true b) (without-other w i e)
+without-other here i e = simp (member-more, e)
+without-other (there w) i e = simp (member-more, without-other w i e)
 
 -- the order is kept
 without-rising : {f k : ℕ} {fs fs′ : List ℕ} → Without f fs fs′ → Rising k fs → Rising k fs′
@@ -256,12 +253,13 @@ pub data Goes (n : ℕ) : Taken → List ℕ → Taken → Type 0 where
 
 -- a judgement that is fine goes so
 pub goes : (n : ℕ) (w : List ℕ) → n ≤ 255 → (ps : List ℕ) (t : Taken) → judge n w t ps .verdict ≡ verdict·.Fine → Goes n t (bytesAt w ps) (judge n w t ps .taken)
-unfolding judge bytesAt
-goes n w few [] t = λ v. goes-end
+unfolding bytesAt
+goes n w few [] t = rw judge-none (λ v. goes-end)
 goes n w few (p ∷ ps) t =
     let byte = getD w p 0 in
     let P : Judged → Type 0 = λ j. j .verdict ≡ verdict·.Fine → Goes n t (byte ∷ bytesAt w ps) (j .taken) in
-    by-test P (eqb byte 255) _ _
+    rw (judge-more n w t p ps)
+    (by-test P (eqb byte 255) _ _
     (λ e v. rw (eqb-true byte 255 e) (goes-local (goes n w few ps _ v)))
     (λ x. by-test P (eqb byte 254) _ _
     (λ e v. rw (eqb-true byte 254 e) (goes-remote (goes n w few ps _ v)))
@@ -272,36 +270,36 @@ goes n w few (p ∷ ps) t =
     let f : byte < n = ltb-true _ _ z in
     let g : byte < 254 = omega (arith, eqb-false byte 255 x, eqb-false byte 254 y) in
     goes-tlc f g m (goes n w few ps _ v)))
-    (λ _ v. let o : _≡_ {A = ℕ} 0 1 = cc in absurd (omega arith))))
+    (λ _ v. let o : _≡_ {A = ℕ} 0 1 = cc in absurd (omega arith)))))
 
 -- ---- which TLCs they settle
 
 -- a share's byte settles none
 settles-share : (bytes : List ℕ) (byte i : ℕ) → 254 ≤ byte → settles (byte ∷ bytes) i ≡ settles bytes i
-unfolding settles member
+unfolding settles
 settles-share bytes byte i h = go (ltb i 254) refl
   where
     go : (t : Bool) → ltb i 254 ≡ t → settles (byte ∷ bytes) i ≡ settles bytes i
     go true e =
         let f : i < 254 = ltb-true i 254 e in
-        simp (ne-eqb i byte (omega arith))
+        simp (member-more, ne-eqb i byte (omega arith))
     go false e = simp e
 
 -- a TLC's byte settles that one
 settles-tlc : (bytes : List ℕ) (byte i : ℕ) → byte < 254 → settles (byte ∷ bytes) i ≡ cond (eqb i byte) true (settles bytes i)
-unfolding settles member
+unfolding settles
 settles-tlc bytes byte i h = go (eqb i byte) refl
   where
     go : (t : Bool) → eqb i byte ≡ t → settles (byte ∷ bytes) i ≡ cond t true (settles bytes i)
     go true e =
         let f : i < 254 = omega (arith, eqb-true i byte e) in
-        simp (e, lt-ltb i 254 f)
-    go false e = simp e
+        simp (member-more, e, lt-ltb i 254 f)
+    go false e = simp (member-more, e)
 
 -- no byte settles none
 settles-none : (i : ℕ) → settles [] i ≡ false
-unfolding settles member
-settles-none i = go (ltb i 254)
+unfolding settles
+settles-none i = rw (member-none i) (go (ltb i 254))
   where
     go : (t : Bool) → cond t false false ≡ false
     go true = refl
@@ -319,12 +317,11 @@ or-swap false y z = refl
 
 -- those taken before, and those that the unlock bytes settle
 goes-settles : {n : ℕ} {t u : Taken} {bytes : List ℕ} → Goes n t bytes u → (i : ℕ) → member i (u .settled) ≡ cond (member i (t .settled)) true (settles bytes i)
-unfolding member
 goes-settles (goes-end {t = t}) i = rw (settles-none i) (or-false (member i (t .settled)))
 goes-settles (goes-local {bytes = bytes} g) i = rw (settles-share bytes 255 i (omega arith)) (goes-settles g i)
 goes-settles (goes-remote {bytes = bytes} g) i = rw (settles-share bytes 254 i (omega arith)) (goes-settles g i)
 goes-settles (goes-tlc {t = t} {byte = byte} {bytes = bytes} f h m g) i =
-    rw (settles-tlc bytes byte i h) (goes-settles g i ∙ or-swap (eqb i byte) (member i (t .settled)) (settles bytes i))
+    rw (settles-tlc bytes byte i h) ((rw (member-more i byte (t .settled)) at (goes-settles g i)) ∙ or-swap (eqb i byte) (member i (t .settled)) (settles bytes i))
 
 -- ---- the first places of the TLCs that stand
 
@@ -337,9 +334,9 @@ unsettled settled i (f ∷ fs) =
 
 -- none settled: all of them
 pub unsettled-none : (i : ℕ) (fs : List ℕ) → unsettled [] i fs ≡ fs
-unfolding unsettled member
+unfolding unsettled
 unsettled-none i [] = refl
-unsettled-none i (f ∷ fs) = ap (λ (l : List ℕ). f ∷ l) (unsettled-none (i + 1) fs)
+unsettled-none i (f ∷ fs) = rw (member-none i) (ap (λ (l : List ℕ). f ∷ l) (unsettled-none (i + 1) fs))
 
 -- they are those that the observer has remain
 remain-is : (bytes settled : List ℕ) → ((i : ℕ) → settles bytes i ≡ member i settled) → (i : ℕ) (fs : List ℕ) → remain bytes i fs ≡ unsettled settled i fs
@@ -349,28 +346,27 @@ remain-is bytes settled e i (f ∷ fs) = simp (e i, remain-is bytes settled e (i
 
 -- after the unlocks of a call
 pub goes-remain : {n : ℕ} {t u : Taken} {bytes : List ℕ} → Goes n t bytes u → t .settled ≡ [] → (fs : List ℕ) → remain bytes 0 fs ≡ unsettled (u .settled) 0 fs
-unfolding member
 goes-remain {u = u} {bytes = bytes} g e fs =
-    remain-is bytes (u .settled) (λ i. sym (goes-settles g i ∙ ap (λ (l : List ℕ). cond (member i l) true (settles bytes i)) e)) 0 fs
+    remain-is bytes (u .settled) (λ i. sym (goes-settles g i ∙ ap (λ (l : List ℕ). cond (member i l) true (settles bytes i)) e ∙ rw (member-none i))) 0 fs
 
 -- a place before i is none of them
 unsettled-below : (settled : List ℕ) (i : ℕ) (fs : List ℕ) (j : ℕ) → j < i → unsettled (j ∷ settled) i fs ≡ unsettled settled i fs
-unfolding unsettled member
+unfolding unsettled
 unsettled-below settled i [] j h = refl
-unsettled-below settled i (f ∷ fs) j h = simp (ne-eqb i j (omega arith), unsettled-below settled (i + 1) fs j (omega arith))
+unsettled-below settled i (f ∷ fs) j h = simp (member-more, ne-eqb i j (omega arith), unsettled-below settled (i + 1) fs j (omega arith))
 
 -- one more settled is one place less
 without-at : (settled : List ℕ) (i : ℕ) (fs : List ℕ) (j : ℕ) → j < length fs → member (i + j) settled ≡ false
     → Without (getD fs j 0) (unsettled settled i fs) (unsettled ((i + j) ∷ settled) i fs)
-unfolding unsettled member
+unfolding unsettled
 without-at settled i [] j h m = absurd (omega arith)
 without-at settled i (f ∷ fs) zero h m =
     let m′ : member i settled ≡ false = rw add-zero at m in
-    simp (add-zero, m′, eq-eqb i i refl, unsettled-below settled (i + 1) fs i (omega arith)) here
+    simp (add-zero, member-more, m′, eq-eqb i i refl, unsettled-below settled (i + 1) fs i (omega arith)) here
 without-at settled i (f ∷ fs) (suc j) h m =
     let e : i + suc j ≡ i + 1 + j = omega arith in
     let m′ : member (i + 1 + j) settled ≡ false = rw e at m in
-    simp (e, ne-eqb i (i + 1 + j) (omega arith)) (go (member i settled) (without-at settled (i + 1) fs j (omega arith) m′))
+    simp (e, member-more, ne-eqb i (i + 1 + j) (omega arith)) (go (member i settled) (without-at settled (i + 1) fs j (omega arith) m′))
   where
     go : (b : Bool) {x : ℕ} {ys zs : List ℕ} → Without x ys zs → Without x (cond b ys (f ∷ ys)) (cond b zs (f ∷ zs))
     go true w = w
@@ -389,9 +385,10 @@ recordsAt-at rs (f ∷ fs) zero h = refl
 recordsAt-at rs (f ∷ fs) (suc j) h = recordsAt-at rs fs j (omega arith)
 
 pub recordsAt-keep : (rs : List (List ℕ)) (settled : List ℕ) (i : ℕ) (fs : List ℕ) → keep settled i (recordsAt rs fs) ≡ recordsAt rs (unsettled settled i fs)
-unfolding recordsAt keep unsettled
-recordsAt-keep rs settled i [] = refl
-recordsAt-keep rs settled i (f ∷ fs) = go (member i settled) (unsettled settled (i + 1) fs) (recordsAt-keep rs settled (i + 1) fs)
+unfolding recordsAt unsettled
+recordsAt-keep rs settled i [] = keep-none settled i
+recordsAt-keep rs settled i (f ∷ fs) =
+    rw (keep-more settled i (getD rs f []) (recordsAt rs fs)) (go (member i settled) (unsettled settled (i + 1) fs) (recordsAt-keep rs settled (i + 1) fs))
   where
     go : (b : Bool) (ys : List ℕ) {xs : List (List ℕ)} → xs ≡ recordsAt rs ys → cond b xs (getD rs f [] ∷ xs) ≡ recordsAt rs (cond b ys (f ∷ ys))
     go true ys e = e
@@ -409,10 +406,10 @@ module _ (rs tlcs : List (List ℕ)) (firsts R L : List ℕ) (e : tlcs ≡ recor
       → Pays rs (accountOf firsts R L t)
       (payments tlcs firsts (shareAmount (shareLeft (t .remote) R)) (shareAmount (shareLeft (t .local) L)) bytes)
       (accountOf firsts R L u)
-  unfolding payments shareLeft shareAmount le
+  unfolding payments
   goes-pays (goes-end {t = t}) s = pays-none rs (accountOf firsts R L t)
-  goes-pays (goes-local {t = t} g) s = pays-append (pays-local rs (accountOf firsts R L t)) (goes-pays g s)
-  goes-pays (goes-remote {t = t} g) s = pays-append (pays-remote rs (accountOf firsts R L t)) (goes-pays g s)
+  goes-pays (goes-local {t = t} g) s = pays-append (pays-local rs (accountOf firsts R L t)) (rw (share-taken L, zero-share) at (goes-pays g s))
+  goes-pays (goes-remote {t = t} g) s = pays-append (pays-remote rs (accountOf firsts R L t)) (rw (share-taken R, zero-share) at (goes-pays g s))
   goes-pays (goes-tlc {t = t} {byte = byte} f h m g) s =
       let w : Without (getD firsts byte 0) (unsettled (t .settled) 0 firsts) (unsettled (byte ∷ t .settled) 0 firsts) =
       rw zero-add at (without-at (t .settled) 0 firsts byte f (rw zero-add m)) in

@@ -7,7 +7,7 @@ use lib.ListN.{length, getD, set, drop, replicate}
 use lib.Dec.{ltb, leb, eqb}
 use Rattle.fiber_bytes.specs.Bytes.{part, le}
 use Rattle.fiber_types.specs.Records.{known}
-use Rattle.watchtower.specs.Witness.{recordLen, records, stateBytes, places, unlessCut}
+use Rattle.fiber_witness.specs.Witness.{recordLen, records, stateBytes, places, unlessCut}
 use Rattle.settlement_c.specs.Settlement.{updateAnswerLen}
 
 -- ---- amounts, as unbounded numbers

@@ -10,8 +10,8 @@ use lib.Seq.{sets}
 use lib.Dec.{ltb, eqb}
 use Rattle.fiber_bytes.specs.Bytes.{part, le, leBytes}
 use Rattle.fiber_types.specs.Records.{known}
-use Rattle.watchtower.specs.declared.witness.WitnessRead.the-variants.{Whole}
-use Rattle.watchtower.specs.Witness.{member, places, readWitness}
+use Rattle.fiber_witness.specs.declared.witness.WitnessRead.the-variants.{Whole}
+use Rattle.fiber_witness.specs.Witness.{member, places, readWitness}
 use Rattle.book.specs.Book as book·
 use Rattle.book.specs.Book.{
   Answer,

@@ -10,8 +10,8 @@ use native.Mathlib.Numerals.{add-one}
 use native.Mathlib.Omega.{arith}
 use lib.Dec.{leb}
 use borrow.Author.Tests.{leb-true, leb-false}
-use lib.ListN.{length, getD, set, take, drop, drop-of-length-le, length-take, length-drop, length-set, take-append-drop}
-use lib.Seq.{sets, length-sets, sets-eq, length-take-le, drop-cons, drop-drop, take-add, take-all, set-out}
+use lib.ListN.{length, getD, set, take, drop, replicate, drop-of-length-le, length-take, length-drop, take-append-drop}
+use lib.Seq.{sets, length-sets, sets-eq, length-take-le, drop-cons, drop-drop, take-add, take-take, take-all, set-out}
 use Rattle.fiber_bytes.specs.Bytes.{part, le, leBytes}
 
 pub either : (a b : ℕ) → (a ≤ b) ⊎ (b < a)
@@ -41,6 +41,23 @@ part-rest s at n h =
     let e = length-drop at s in
     take-all (length s - at) (drop at s) (omega (arith, e)) ∙ sym (take-all n (drop at s) (omega (arith, e)))
 
+-- taking from the front, cut before it
+take-within : (k m n : ℕ) (l : List ℕ) → k + m ≤ n → take m (drop k (take n l)) ≡ take m (drop k l)
+take-within zero m n l h = take-take m n l (omega arith)
+take-within (suc k) m zero l h = absurd (omega arith)
+take-within (suc k) m (suc n) [] h = refl
+take-within (suc k) m (suc n) (x ∷ l) h = take-within k m n l (omega arith)
+
+-- a part of a part
+pub part-part : (s : List ℕ) (at n k m : ℕ) → k + m ≤ n → part (part s at n) k m ≡ part s (at + k) m
+part-part s at n k m h = take-within k m n (drop at s) h ∙ ap (take m) (drop-drop k at s)
+
+-- what is behind the first k bytes of a part
+pub part-behind : (s : List ℕ) (at k m : ℕ) → drop k (part s at (k + m)) ≡ part s (at + k) m
+part-behind s at k m =
+    sym (take-all m (drop k (part s at (k + m))) (omega (arith, length-drop k (part s at (k + m)), length-take (k + m) (drop at s))))
+    ∙ part-part s at (k + m) k m (omega arith)
+
 -- ---- little-endian numbers
 
 pub le-append : (xs ys : List ℕ) → le (xs ++ ys) ≡ le xs + 256 ^ length xs * le ys
@@ -65,6 +82,12 @@ le-one s at h = ap le (part-one s at h) ∙ omega arith
 pub le-none : (s : List ℕ) (at n : ℕ) → length s ≤ at → 0 ≡ le (part s at n)
 unfolding le
 le-none s at n h = rw (part-none s at n h)
+
+-- zeros hold 0
+pub le-zeros : (n : ℕ) → le (replicate n 0) ≡ 0
+unfolding le
+le-zeros zero = refl
+le-zeros (suc n) = omega (arith, le-zeros n)
 
 -- a byte put below a number
 pub grow : (x b n : ℕ) → x < 256 ^ n → b < 256 → 256 * x + b < 256 ^ (n + 1)

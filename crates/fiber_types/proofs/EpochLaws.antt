@@ -1,18 +1,21 @@
 -- Laws of `specs/Epoch.antt`: checked products, and fractions compared by whole parts and rests.
 -- Assumes nothing.
-use Prim.Native.Nat.{ℕ, suc, _+_, _*_, _/_, _%_, _^_, _≤_, _<_}
+use Prim.Native.Nat.{ℕ, _+_, _*_, _/_, _%_, _^_, _≤_, _<_}
 use native.Mathlib.Nat.{mod-lt, mod-le, div-le-self, div-add-mod', mul-le-mul-right, suc-mul, mul-zero, add-mul, mul-assoc, mul-comm, mul-pos, mul-le-mul-left, mul-lt-mul-of-pos-right, lt-of-le-of-lt, add-comm, add-mul-div-right, add-mul-mod-self-right, le-div-iff-mul-le, div-lt-iff-lt-mul}
 use native.Mathlib.Omega.{arith}
-use mathlib.Core.Path.{_≡_, refl, sym, ap, _∙_}
+use mathlib.Core.Path.{_≡_, refl, sym, ap, subst, _∙_}
 use mathlib.Core.Bool.{Bool, true, false, cond}
 use mathlib.Core.Logic.{_⊎_, inl, inr}
 use lib.Dec.{eqb, leb, ltb, lit<}
 use borrow.Author.Tests.{le-leb, lt-leb, leb-true, leb-false, lt-ltb, le-ltb, ltb-true, ltb-false, ne-eqb}
 use Rattle.fiber_types.specs.declared.epoch.Epoch.{Epoch}
 use Rattle.fiber_types.specs.declared.epoch.Product.the-variants.{Fits, Over}
+use Rattle.fiber_types.specs.declared.epoch.Scaled.{Scaled}
 use Rattle.fiber_types.specs.declared.epoch.Scaled.the-variants.{Refused}
+use Rattle.fiber_types.specs.declared.epoch.Scaled.the-variants as scaled·
+use Rattle.fiber_types.specs.declared.epoch.DueTest.{DueTest}
 use Rattle.fiber_types.specs.declared.epoch.DueTest.the-variants as due·
-use Rattle.fiber_types.specs.Epoch.{Within, withinBits, units, checkedMul, normalized, scaled, due, dueTest}
+use Rattle.fiber_types.specs.Epoch.{Within, epochOf, withinBits, units, checkedMul, factor, normalized, scaled, due, dueTest}
 
 -- ---- products
 
@@ -279,3 +282,118 @@ module _ (h d n : Epoch) where
     pub test-due : (h .length ≡ 0 → ⊥) → (d .length ≡ 0 → ⊥) → (n .length ≡ 0 → ⊥) → (t : Bool) → t ≡ due h d n → cond t due·.Due due·.NotDue ≡ dueTest h d n
     unfolding dueTest
     test-due x y z t u = rw (e, f, g, ne-eqb (h .length) 0 x, ne-eqb (d .length) 0 y, ne-eqb (n .length) 0 z, u)
+
+-- ---- fields of an epoch value
+
+-- an epoch value's fields are within their bits
+pub epoch-within : (v : ℕ) → withinBits (epochOf v) ≡ true
+unfolding withinBits epochOf
+epoch-within v =
+    rw (
+      lt-ltb (v % 2 ^ 24) (2 ^ 24) (mod-lt v (lit< tt)),
+      lt-ltb (v / 2 ^ 24 % 2 ^ 16) (2 ^ 16) (mod-lt (v / 2 ^ 24) (lit< tt)),
+      lt-ltb (v / 2 ^ 40 % 2 ^ 16) (2 ^ 16) (mod-lt (v / 2 ^ 40) (lit< tt)),
+    )
+
+-- ---- thirds of a delay
+
+-- What a denominator is divided by is no more than it, and leaves no more than 1800 of it.
+record Factor (d s : ℕ) : Type 0 where
+  some : 0 < s
+  most : s ≤ d
+  cover : d < 1801 * s
+
+factor-size : (d : ℕ) → 0 < d → Factor d (factor d)
+unfolding factor
+factor-size d h = go (ltb 1800 d) refl
+  where
+    go : (b : Bool) → ltb 1800 d ≡ b → Factor d (cond b (d / 1800 + 1) 1)
+    go true e = let z : 1800 < d = ltb-true 1800 d e in record { some = omega arith; most = omega arith; cover = omega arith }
+    go false e = let z : d ≤ 1800 = ltb-false 1800 d e in record { some = omega arith; most = omega arith; cover = omega arith }
+
+-- a scaled delay that is not turned down, and can be compared
+pub record Fraction (x : Scaled) : Type 0 where
+  pub epoch : Epoch
+  pub told : x ≡ scaled·.Epoch epoch
+  pub within : Within epoch
+
+-- a fraction whose whole part has 24 bits
+normalized-within : (n d : ℕ) → 0 < d → n < 16777216 * d → Fraction (normalized n d)
+unfolding normalized
+normalized-within n d p h =
+    let f = factor-size d p in
+    let w : n / d < 16777216 = div-lt-iff-lt-mul p .1 h in
+    record {
+      epoch = record { number = n / d; index = n % d / factor d; length = d / factor d };
+      told = rw (ne-eqb d 0 (λ e. omega arith), le-ltb 16777215 (n / d) (omega arith));
+      within = record {
+        number = w;
+        index = div-lt-iff-lt-mul (f .some) .1 (omega (arith, f .cover, mod-lt n p));
+        length = div-lt-iff-lt-mul (f .some) .1 (omega (arith, f .cover));
+        some = le-div-iff-mul-le (f .some) .1 (omega (arith, f .most));
+      };
+    }
+
+-- within its bits
+bits-of : (e : Epoch) → Within e → withinBits e ≡ true
+bits-of e w = sym (bits-length e (w .number) (w .index)) ∙ lt-ltb (e .length) (2 ^ 16) (w .length)
+
+-- no third of a delay that can be compared is turned down, and it can be compared too
+pub thirds-within : (e : Epoch) (k : ℕ) → k ≤ 2 → Within e → Fraction (scaled e k 3)
+unfolding scaled units
+thirds-within e k h w =
+    let a : e .number * e .length ≤ 16777215 * e .length = mul-le-mul-right (e .length) (omega (arith, w .number)) in
+    let b : k * (e .number * e .length + e .index) ≤ 2 * (e .number * e .length + e .index) = mul-le-mul-right (e .number * e .length + e .index) h in
+    let i = w .index in
+    let l = w .length in
+    let s = w .some in
+    rw (bits-of e w, lt-leb (2 ^ 64) (k * (e .number * e .length + e .index)) (omega arith), lt-leb (2 ^ 64) (3 * e .length) (omega arith))
+    (normalized-within (k * (e .number * e .length + e .index)) (3 * e .length) (omega arith) (omega arith))
+
+-- so what the code has as a third can be compared
+pub third-within : (e : Epoch) (k : ℕ) → k ≤ 2 → Within e → (x : Scaled) (third : Epoch) → x ≡ scaled e k 3 → x ≡ scaled·.Epoch third → Within third
+third-within e k h w x third f g = let z = thirds-within e k h w in subst Within (inside (z .epoch) third (sym (z .told) ∙ sym f ∙ g)) (z .within)
+  where
+    inside : (a b : Epoch) → scaled·.Epoch a ≡ scaled·.Epoch b → a ≡ b
+    inside a b e = cc
+
+-- and it has one
+pub third-refused : (e : Epoch) (k : ℕ) → k ≤ 2 → Within e → (x : Scaled) (number place : ℕ) → x ≡ scaled e k 3 → x ≡ scaled·.Refused number place → ⊥
+third-refused e k h w x number place f g =
+    let t = sym (thirds-within e k h w .told) ∙ sym f ∙ g in
+    let z : _≡_ {A = ℕ} 0 1 = cc in
+    omega arith
+
+-- ---- the due test
+
+module _ (h d n : Epoch) (w : Within h × (Within d × Within n)) (x : DueTest) (e : x ≡ dueTest h d n) where
+  -- it is never turned down
+  due-test : x ≡ cond (due h d n) due·.Due due·.NotDue
+  due-test =
+      e
+      ∙ sym
+      (test-due h d n (bits-of h (w .0)) (bits-of d (w .1 .0)) (bits-of n (w .1 .1)) (λ z. omega (arith, w .0 .some)) (λ z. omega (arith, w .1 .0 .some)) (λ z. omega (arith, w .1 .1 .some)) (due h d n) refl)
+
+  -- due
+  pub over-due : x ≡ due·.Due → true ≡ due h d n
+  over-due f = go (due h d n) due-test
+    where
+      go : (b : Bool) → x ≡ cond b due·.Due due·.NotDue → true ≡ b
+      go true g = refl
+      go false g = let z : _≡_ {A = ℕ} 0 1 = cc in absurd (omega arith)
+
+  -- not due
+  pub over-not : x ≡ due·.NotDue → false ≡ due h d n
+  over-not f = go (due h d n) due-test
+    where
+      go : (b : Bool) → x ≡ cond b due·.Due due·.NotDue → false ≡ b
+      go true g = let z : _≡_ {A = ℕ} 0 1 = cc in absurd (omega arith)
+      go false g = refl
+
+  -- turned down
+  pub over-refused : (number place : ℕ) → x ≡ due·.Refused number place → ⊥
+  over-refused number place f = go (due h d n) due-test
+    where
+      go : (b : Bool) → x ≡ cond b due·.Due due·.NotDue → ⊥
+      go true g = let z : _≡_ {A = ℕ} 0 1 = cc in omega arith
+      go false g = let z : _≡_ {A = ℕ} 0 1 = cc in omega arith

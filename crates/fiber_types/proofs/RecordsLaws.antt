@@ -1,15 +1,16 @@
 -- Laws of `specs/Records.antt`: the definitions by their tests, and both directions of each layout.
 -- Assumes nothing.
-use Prim.Native.Nat.{ℕ, zero, suc, _+_, _-_, _*_, _/_, _%_, _^_, _≤_, _<_}
+use Prim.Native.Nat.{ℕ, suc, _+_, _-_, _≤_, _<_}
 use native.Mathlib.Omega.{arith}
 use mathlib.Core.Path.{_≡_, refl, sym, ap, _∙_}
 use mathlib.Core.Bool.{Bool, true, false, cond}
-use mathlib.Core.List.{List, [], _∷_, _++_, append-assoc}
+use mathlib.Core.List.{List, _∷_, _++_, append-assoc}
 use mathlib.Core.Logic.{_⊎_, inl, inr}
 use lib.Dec.{eqb, leb, lit≤}
-use lib.ListN.{length, getD, take, drop, length-append, set}
+use lib.ListN.{length, getD, length-append, set}
 use lib.Seq.{sets, length-sets}
-use borrow.Author.Tests.{le-leb, lt-leb, eq-eqb, ne-eqb, eqb-true}
+use borrow.Author.Tests.{le-leb, lt-leb, leb-true, eq-eqb, ne-eqb, eqb-true}
+use Rattle.fiber_types.specs.declared.answer.Written.{Written}
 use Rattle.fiber_types.specs.declared.answer.Written.the-variants as written·
 use Rattle.fiber_types.specs.declared.tlc.Amount.{Amount}
 use Rattle.fiber_types.specs.declared.tlc.Tlc.{Tlc}
@@ -17,8 +18,8 @@ use Rattle.fiber_types.specs.declared.tlc.TlcRead.the-variants as tlc·
 use Rattle.fiber_types.specs.declared.unlock.Unlock.{Unlock}
 use Rattle.fiber_types.specs.declared.unlock.UnlockRead.the-variants as unlock·
 use Rattle.fiber_bytes.specs.Bytes.{part, le, leBytes}
-use Rattle.fiber_types.specs.Records.{Outcome, outcome, amountAt, known, isOffered, tlcBytes, readTlc, wroteTlc, witnessLen, flagByte, unlockBytes, readUnlock, wroteUnlock}
-use Rattle.fiber_bytes.proofs.BytesLaws.{leBytes-length, sets-then, le-none}
+use Rattle.fiber_types.specs.Records.{outcome, amountAt, known, tlcBytes, readTlc, wroteTlc, witnessLen, flagByte, unlockBytes, readUnlock, wroteUnlock}
+use Rattle.fiber_bytes.proofs.BytesLaws.{part-part, leBytes-length, sets-then, le-none}
 
 -- ---- reading
 
@@ -39,6 +40,11 @@ module _ (h : ℕ) (s : List ℕ) (at : ℕ) where
 
 pub fields : {k x y : ℕ} {a b : Amount} → a ≡ b → x ≡ y → tlc·.Record (record { kind = k; amount = a; expiry = x }) ≡ tlc·.Record (record { kind = k; amount = b; expiry = y })
 fields e f = cc
+
+-- 20 is one
+pub known-20 : known 20 ≡ true
+unfolding known
+known-20 = refl
 
 pub known-small : (h : ℕ) → known h ≡ true → h ≤ 32
 unfolding known
@@ -80,6 +86,13 @@ module _ (s : List ℕ) (at : ℕ) where
   unfolding amountAt
   amount-both x y e f = rw (e, f)
 
+-- an amount within a part is the amount at its place
+pub amount-part : (s : List ℕ) (at n i : ℕ) → i + 16 ≤ n → amountAt (part s at n) i ≡ amountAt s (at + i)
+unfolding amountAt
+amount-part s at n i h =
+    let e : at + (i + 8) ≡ at + i + 8 = omega arith in
+    rw (part-part s at n i 8 (omega arith), part-part s at n (i + 8) 8 (omega arith), e)
+
 -- ---- writing
 
 module _ (ok : Bool) (bytes out : List ℕ) where
@@ -95,6 +108,29 @@ module _ (ok : Bool) (bytes out : List ℕ) where
     pub outcome-whole : n ≤ length out → (out′ : List ℕ) → out′ ≡ sets out 0 bytes → (written·.Bytes n ≡ outcome ok bytes out .answer) × (out′ ≡ outcome ok bytes out .bytes)
     unfolding outcome
     outcome-whole g out′ d = (rw (e, f, le-leb n (length out) g), rw (e, f, le-leb n (length out) g) d)
+
+-- what has room is written
+pub outcome-room : (bytes out : List ℕ) → length bytes ≤ length out → outcome true bytes out ≡ record { answer = written·.Bytes (length bytes); bytes = sets out 0 bytes }
+unfolding outcome
+outcome-room bytes out g = rw (le-leb (length bytes) (length out) g)
+
+-- what holds where the bytes are written, and where they have no room, holds of the outcome
+pub outcome-by : (P : List ℕ → Written → Type 0) (bytes out : List ℕ)
+    → (length bytes ≤ length out → P (sets out 0 bytes) (written·.Bytes (length bytes)))
+    → P out (written·.Refused 13 (length bytes))
+    → P (outcome true bytes out .bytes) (outcome true bytes out .answer)
+unfolding outcome
+outcome-by P bytes out f g = go (leb (length bytes) (length out)) refl
+  where
+    go : (b : Bool) → leb (length bytes) (length out) ≡ b → P (outcome true bytes out .bytes) (outcome true bytes out .answer)
+    go true e = rw e (f (leb-true (length bytes) (length out) e))
+    go false e = rw e g
+
+-- the output stays as long as it is
+pub outcome-length : (ok : Bool) (bytes out : List ℕ) → length (outcome ok bytes out .bytes) ≡ length out
+unfolding outcome
+outcome-length false bytes out = refl
+outcome-length true bytes out = outcome-by (λ o w. length o ≡ length out) bytes out (λ _. length-sets out 0 bytes) refl
 
 module _ (t : Tlc) (hash remote local : List ℕ) where
   pub tlcBytes-length : length (tlcBytes t hash remote local) ≡ 25 + (length hash + length remote + length local)
@@ -127,6 +163,19 @@ module _ (t : Tlc) (hash remote local : List ℕ) where
       sets-then o (a₄ ++ local) (leBytes 8 (t .expiry)) (17 + length hash + length remote + length local) p₅ e₆ (sym n₅) ∙ ap (sets o 0) regroup
 
 module _ (u : Unlock) (signature preimage : List ℕ) where
+  -- it begins with its byte, and its flag is read back
+  pub unlockBytes-byte : getD (unlockBytes u signature preimage) 0 0 ≡ u .byte
+  unfolding unlockBytes
+  unlockBytes-byte = refl
+
+  pub unlockBytes-flag : eqb (getD (unlockBytes u signature preimage) 1 0) 1 ≡ u .flag
+  unfolding unlockBytes
+  unlockBytes-flag = go (u .flag)
+    where
+      go : (b : Bool) → eqb (flagByte b) 1 ≡ b
+      go true = refl
+      go false = refl
+
   pub unlockBytes-length : length (unlockBytes u signature preimage) ≡ 2 + (length signature + length preimage)
   unfolding unlockBytes
   unlockBytes-length = simp length-append (omega arith)

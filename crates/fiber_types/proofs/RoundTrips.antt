@@ -1,25 +1,24 @@
 -- Both directions of each layout: what was written reads back, and what was read and written is the same bytes (an unlock's flag aside).
 -- Assumes nothing.
 use Prim.Native.Nat.{ℕ, zero, suc, _+_, _-_, _*_, _/_, _%_, _^_, _≤_, _<_}
-use native.Mathlib.Nat.{add-zero, zero-add, mul-comm, pow-zero, pow-suc, div-lt-iff-lt-mul}
+use native.Mathlib.Nat.{pow-zero, pow-suc, div-lt-iff-lt-mul}
 use native.Mathlib.Omega.{arith}
 use mathlib.Core.Path.{_≡_, refl, sym, ap, ap₂, _∙_}
 use mathlib.Core.Bool.{Bool, true, false, cond}
 use mathlib.Core.Logic.{⊎-elim}
 use mathlib.Core.List.{List, [], _∷_, _++_, append-assoc}
 use lib.Dec.{eqb, leb, lit<}
-use lib.ListN.{length, getD, take, drop, set, length-append, length-take, List·getD-eq-default}
-use lib.Seq.{take-at, drop-at, getD-at, set-getD, getD-take, getD-drop}
-use borrow.Author.Tests.{le-leb, leb-true}
-use Rattle.fiber_types.specs.declared.tlc.Amount.{Amount}
+use lib.ListN.{length, getD, drop, set, length-append, length-take, List·getD-eq-default}
+use lib.Seq.{take-at, drop-at, getD-at, getD-take, getD-drop}
+use borrow.Author.Tests.{leb-true, leb-false}
 use Rattle.fiber_types.specs.declared.tlc.Tlc.{Tlc}
 use Rattle.fiber_types.specs.declared.tlc.TlcRead.the-variants as tlc·
 use Rattle.fiber_types.specs.declared.unlock.Unlock.{Unlock}
 use Rattle.fiber_types.specs.declared.unlock.UnlockRead.the-variants as unlock·
 use Rattle.fiber_bytes.specs.Bytes.{part, le, leBytes}
-use Rattle.fiber_types.specs.Records.{amountOf, amountAt, known, tlcBytes, hashPlace, remotePlace, localPlace, expiryPlace, readTlc, witnessLen, flagByte, unlockBytes, readUnlock}
+use Rattle.fiber_types.specs.Records.{amountOf, amountAt, known, tlcBytes, hashPlace, remotePlace, localPlace, readTlc, witnessLen, flagByte, unlockBytes, readUnlock}
 use Rattle.fiber_bytes.proofs.BytesLaws.{either, part-add, part-length, part-one, le-add, leBytes-length}
-use Rattle.fiber_types.proofs.RecordsLaws.{known-small, tlcBytes-length, unlockBytes-length, tlc-whole, unlock-whole, at-least, fields, amount-both}
+use Rattle.fiber_types.proofs.RecordsLaws.{tlcBytes-length, unlockBytes-length, tlc-whole, unlock-whole, at-least, fields, amount-both}
 
 -- every element is a byte
 pub Bytes : List ℕ → Type 0
@@ -251,6 +250,18 @@ module _ (u : Unlock) (signature preimage p q : List ℕ) (e : length signature 
     signature = signature-part;
     preimage = preimage-part;
   }
+
+-- what an unlock that was turned down says
+pub unlock-refused : (s : List ℕ) (at number place : ℕ) → readUnlock s at ≡ unlock·.Refused number place
+    → (length s < at + witnessLen (eqb (getD s (at + 1) 0) 1)) × ((number ≡ 4) × (place ≡ at))
+unfolding readUnlock
+unlock-refused s at number place e = go (leb (at + witnessLen (eqb (getD s (at + 1) 0) 1)) (length s)) refl e
+  where
+    go : (b : Bool) → leb (at + witnessLen (eqb (getD s (at + 1) 0) 1)) (length s) ≡ b
+        → cond b (unlock·.Record (record { byte = getD s at 0; flag = eqb (getD s (at + 1) 0) 1 })) (unlock·.Refused 4 at) ≡ unlock·.Refused number place
+        → (length s < at + witnessLen (eqb (getD s (at + 1) 0) 1)) × ((number ≡ 4) × (place ≡ at))
+    go true q r = let z : _≡_ {A = ℕ} 0 1 = cc in absurd (omega arith)
+    go false q r = (leb-false (at + witnessLen (eqb (getD s (at + 1) 0) 1)) (length s) q, (cc, cc))
 
 -- what an unlock that was read says of the slice
 pub unlock-read : (s : List ℕ) (at : ℕ) (u : Unlock) → readUnlock s at ≡ unlock·.Record u

@@ -6,7 +6,7 @@ use lib.ListN.{length, take, replicate}
 use lib.Dec.{eqb}
 use Rattle.fiber_types.specs.declared.key.KeyAnswer.the-variants.{Taken, Refused}
 use Rattle.fiber_types.specs.declared.key.KeyHash.{KeyHash}
-use Rattle.fiber_types.specs.Blake2b.{ckbHash}
+use Rattle.fiber_blake2b.specs.Blake2b.{ckbHash}
 
 -- the first 20 bytes of the CKB hash of the 33 key bytes; a key of another length is 14
 unfoldable pub keyHash : List ℕ → KeyHash

@@ -1,7 +1,4 @@
--- What the lower library's operations mean: one file to a module.
-pub mod Words
-pub mod Blake2b
-pub mod Sha256
+-- What the lower face's own operations mean: one file to a module of document 01.
 pub mod Key
 pub mod Since
 pub mod Epoch

@@ -1,7 +1,7 @@
 -- TLC records and unlocks; document 01, "Records", with the numbers of its table.
 use Prim.Native.Nat.{ℕ, _+_, _-_, _*_, _%_, _^_}
 use mathlib.Core.Bool.{Bool, true, false, cond}
-use mathlib.Core.List.{List, [], _∷_, _++_}
+use mathlib.Core.List.{List, _∷_, _++_}
 use lib.ListN.{length, getD}
 use lib.Seq.{sets}
 use lib.Dec.{eqb, leb}

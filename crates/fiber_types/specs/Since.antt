@@ -1,6 +1,6 @@
 -- Since values after CKB RFC 0017; document 01, "Since and epochs".
 use Prim.Native.Nat.{ℕ, _*_, _/_, _%_, _^_}
-use mathlib.Core.Bool.{Bool, cond}
+use mathlib.Core.Bool.{cond}
 use lib.Dec.{eqb, ltb}
 use Rattle.fiber_types.specs.declared.since.Metric.{Metric}
 use Rattle.fiber_types.specs.declared.since.Metric.the-variants.{Block, Epoch, Timestamp, None}

@@ -1,5 +1,5 @@
 // Key hashes.
-use crate::blake2b::ckb_hash;
+use fiber_blake2b::blake2b::ckb_hash;
 use fiber_bytes::put;
 ghost use mathlib.Core.Path.{_≡_};
 ghost use Rattle.fiber_types.specs.Key as S;

@@ -7,13 +7,14 @@ use mathlib.Core.Bool.{Bool, true, false, cond}
 use mathlib.Core.List.{List, [], _∷_, _++_, map}
 use lib.ListN.{length, getD, take, length-append, List·getD-map}
 use lib.Seq.{take-at, drop-at, take-all}
-use Rattle.watchtower.specs.Witness.{records}
-use Rattle.watchtower.specs.Lent.{same, entries, trackedHash, trackedAlgorithm, pairLen, pairHash, pairPreimage}
-use Rattle.watchtower.specs.Choice.{digest, findPair, countsAt}
-use Rattle.watchtower.specs.declared.choice.Found.{Found}
-use Rattle.watchtower.specs.declared.choice.Found.the-variants.{At, None}
+use Rattle.fiber_choice.specs.Lent.{same, entries, trackedHash, trackedAlgorithm, pairLen, pairHash, pairPreimage}
+use Rattle.fiber_choice.specs.Choice.{digest, findPair, countsAt}
+use Rattle.fiber_choice.specs.declared.kinds.Found.{Found}
+use Rattle.fiber_choice.specs.declared.kinds.Found.the-variants.{At, None}
 use Rattle.preimage_list.specs.declared.Preimage.{Preimage}
 use Rattle.preimage_list.specs.PreimageList.{findIn, flatPairs}
+use Rattle.fiber_choice.proofs.LentLaws.{entries-none, entries-append}
+use Rattle.fiber_choice.proofs.LaterLaws.{find-none, find-more, counts-by}
 
 -- what stands past the end of a list of pairs
 abbrev pub noPair : Preimage
@@ -46,26 +47,19 @@ module _ (p : Preimage) (z : SizedPair p) where
       let e : length (p .preimage) ≤ 32 = omega (arith, z .preimage-32) in
       ap (take 32) (drop-at (p .hash) (p .preimage) 32 (z .hash-32)) ∙ take-all 32 (p .preimage) e
 
-  -- the first entry, and the others
-  entries-cons : (s : List ℕ) → entries pairLen (bytesOf p ++ s) ≡ bytesOf p ∷ entries pairLen s
-  unfolding entries records
-  entries-cons s =
-      let e : length (bytesOf p ++ s) / 64 ≡ suc (length s / 64) = omega (arith, length-append (bytesOf p) s, bytes-64) in
-      rw (e, take-at (bytesOf p) s 64 bytes-64, drop-at (bytesOf p) s 64 bytes-64)
-
 -- the entries are the pairs, one for one
 pub entries-flat : (ps : List Preimage) → Sized ps → entries pairLen (flatPairs ps) ≡ map bytesOf ps
-unfolding flatPairs entries records
-entries-flat [] z = refl
-entries-flat (p ∷ ps) z = entries-cons p (z .0) (flatPairs ps) ∙ ap (λ (es : List (List ℕ)). bytesOf p ∷ es) (entries-flat ps (z .1))
+unfolding flatPairs
+entries-flat [] z = entries-none pairLen
+entries-flat (p ∷ ps) z = entries-append pairLen (bytesOf p) (flatPairs ps) (omega arith) (bytes-64 p (z .0)) ∙ ap (λ (es : List (List ℕ)). bytesOf p ∷ es) (entries-flat ps (z .1))
 
 -- ---- the search
 
 find-from : (i : ℕ) (ps : List Preimage) (h : List ℕ) → Sized ps → findIn i ps h ≡ findPair i (map bytesOf ps) h
-unfolding findIn findPair
-find-from i [] h z = refl
+unfolding findIn
+find-from i [] h z = sym (find-none i h)
 find-from i (p ∷ ps) h z =
-    rw (pair-hash p (z .0))
+    rw (find-more i (bytesOf p) (map bytesOf ps) h, pair-hash p (z .0))
     (ap (λ (next : Found). cond (same (p .hash) h) (At i) next) (find-from (i + 1) ps h (z .1)))
 
 -- on the same pairs, this search and the flat slice's find the same
@@ -88,8 +82,9 @@ preimage-agrees ps z i =
 -- so a pair counts by its own preimage
 pub counts-agrees : (ps : List Preimage) → Sized ps → (t : List ℕ) (i : ℕ)
     → countsAt (entries pairLen (flatPairs ps)) t i ≡ same (digest (trackedAlgorithm t) ((getD ps i noPair) .preimage)) (trackedHash t)
-unfolding countsAt
-counts-agrees ps z t i = ap (λ (s : List ℕ). same (digest (trackedAlgorithm t) s) (trackedHash t)) (preimage-agrees ps z i)
+counts-agrees ps z t i =
+    counts-by (entries pairLen (flatPairs ps)) t i
+    ∙ ap (λ (s : List ℕ). same (digest (trackedAlgorithm t) s) (trackedHash t)) (preimage-agrees ps z i)
 
 -- ---- the pair that is found
 

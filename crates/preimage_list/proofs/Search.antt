@@ -12,9 +12,9 @@ use lib.Dec.{ltb}
 use lib.ListN.{length, getD, drop, drop-of-length-le}
 use lib.Seq.{drop-cons}
 use borrow.Author.Tests.{lt-ltb, le-ltb}
-use Rattle.watchtower.specs.Lent.{same}
-use Rattle.watchtower.specs.declared.choice.Found.{Found}
-use Rattle.watchtower.specs.declared.choice.Found.the-variants.{At, None}
+use Rattle.fiber_choice.specs.Lent.{same}
+use Rattle.fiber_choice.specs.declared.kinds.Found.{Found}
+use Rattle.fiber_choice.specs.declared.kinds.Found.the-variants.{At, None}
 use Rattle.preimage_list.specs.declared.Preimage.{Preimage}
 use Rattle.preimage_list.specs.PreimageList.{findIn}
 use Rattle.preimage_list.proofs.PreimageListLaws.{noPair}

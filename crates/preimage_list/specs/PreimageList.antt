@@ -2,9 +2,9 @@
 use Prim.Native.Nat.{ℕ, _+_}
 use mathlib.Core.Bool.{cond}
 use mathlib.Core.List.{List, [], _∷_, _++_}
-use Rattle.watchtower.specs.declared.choice.Found.{Found}
-use Rattle.watchtower.specs.declared.choice.Found.the-variants.{At, None}
-use Rattle.watchtower.specs.Lent.{same}
+use Rattle.fiber_choice.specs.declared.kinds.Found.{Found}
+use Rattle.fiber_choice.specs.declared.kinds.Found.the-variants.{At, None}
+use Rattle.fiber_choice.specs.Lent.{same}
 use Rattle.preimage_list.specs.declared.Preimage.{Preimage}
 
 -- the first pair with a hash; the first of the list is at place i

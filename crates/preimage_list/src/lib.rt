@@ -1,13 +1,14 @@
 // Stored preimages as a list of records: a lent slice of structs of two 32-byte arrays. `find_pair` is the one function that carries such a
-// slice, and is proved by hand; each comparison stands in a function on plain arrays.
+// slice, and is proved by hand; each comparison stands in a function on plain arrays. A form beside the upper face, for whoever lends such a
+// list; no crate of the core uses it. Uses the upper face's definitions.
 use watchtower::choice::Found;
 ghost use mathlib.Core.Path.{_≡_};
 ghost use mathlib.Core.Bool.{cond};
 ghost use lib.Dec.{ltb};
-ghost use Rattle.watchtower.specs.Lent as S;
-ghost use Rattle.watchtower.specs.declared.choice.Found.the-variants as found·;
+ghost use Rattle.fiber_choice.specs.Lent as S;
+ghost use Rattle.fiber_choice.specs.declared.kinds.Found.the-variants as found·;
 ghost use Rattle.preimage_list.specs.PreimageList.{findIn, flatPairs};
-ghost use Rattle.watchtower.specs.Choice.{findPair};
+ghost use Rattle.fiber_choice.specs.Choice.{findPair};
 
 pub struct Preimage {
     pub hash: [u8; 32],

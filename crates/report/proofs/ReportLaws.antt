@@ -14,10 +14,11 @@ use Rattle.fiber_bytes.specs.Bytes.{part}
 use Rattle.fiber_bytes.proofs.BytesLaws.{either, sets-append}
 use Rattle.fiber_types.specs.declared.answer.Written.the-variants as written·
 use Rattle.fiber_types.specs.Records.{Outcome}
-use Rattle.watchtower.specs.Witness.{recordLen, records}
-use Rattle.watchtower.specs.Update.{updated}
-use Rattle.watchtower.proofs.LeftLaws as left·
+use Rattle.fiber_witness.specs.Witness.{recordLen, records}
+use Rattle.fiber_witness.specs.Update.{updated}
+use Rattle.fiber_witness.proofs.LeftLaws as left·
 use Rattle.report.specs.Report.{digitsWithin, decimal, hexDigit, hex, hexHighest, tlcLine, tlcLines, shareLine, refusedText, stateText, saidText, Report, afterUpdate, afterInput, reported, tlcsWord, tlcWord, remoteWord, localWord, refusedWord, atWord}
+use Rattle.fiber_witness.proofs.WitnessLaws.{records-none, records-more}
 
 -- ---- writes, one behind the other
 
@@ -274,19 +275,19 @@ module _ (o : List ℕ) (at : ℕ) (all out : List ℕ) (end : ℕ) where
     pub lines-more : {out₁ : List ℕ} {end₁ : ℕ} → i < n → Wrote out end (tlcLine i (take (from + size - from) (drop from l))) out₁ end₁
         → Left out end (tlcLines i (records size (n - i) (drop from l))) o at all
         → Left out₁ end₁ (tlcLines (i + 1) (records size (n - (i + 1)) (drop (from + size) l))) o at all
-    unfolding tlcLines records
+    unfolding tlcLines
     lines-more h w e =
         let f : n - i ≡ suc (n - (i + 1)) = omega arith in
         left-more (tlcLine i (take size (drop from l))) (tlcLines (i + 1) (records size (n - (i + 1)) (drop (from + size) l)))
         (rw (add-sub-cancel-left from size) at w)
-        (rw (f, drop-drop size from l) at e)
+        (rw (f, records-more size (n - (i + 1)) (drop from l), drop-drop size from l) at e)
 
     -- nothing is left
     pub lines-end : n ≤ i → Left out end (tlcLines i (records size (n - i) (drop from l))) o at all → Wrote o at all out end
-    unfolding tlcLines records
+    unfolding tlcLines
     lines-end h e =
         let f : n - i ≡ 0 = omega arith in
-        let g = rw f at e in
+        let g = rw (f, records-none size (drop from l)) at e in
         (omega (arith, g .0), g .1)
 
 -- all records are left
@@ -348,17 +349,18 @@ share-line-short word s =
 
 -- n lines, each no longer than that
 tlc-lines-short : (size n i : ℕ) (l : List ℕ) → length (tlcLines i (records size n l)) ≤ n * (26 + 2 * size)
-unfolding tlcLines records
-tlc-lines-short size zero i l = omega arith
+unfolding tlcLines
+tlc-lines-short size zero i l = rw (records-none size l) (omega arith)
 tlc-lines-short size (suc n) i l =
-    omega (
+    rw (records-more size n l)
+    (omega (
       arith,
       suc-mul n (26 + 2 * size),
       length-append (tlcLine i (take size l)) (tlcLines (i + 1) (records size n (drop size l))),
       tlc-line-short i (take size l),
       part-short l 0 size,
       tlc-lines-short size n (i + 1) (drop size l),
-    )
+    ))
 
 -- 255 lines of 97 bytes
 pub lines-short : (size n i : ℕ) (l : List ℕ) → n ≤ 255 → size ≤ 97 → length (tlcLines i (records size n l)) ≤ 56100

@@ -8,8 +8,8 @@ use Rattle.fiber_bytes.specs.Bytes.{part}
 use Rattle.fiber_types.specs.declared.answer.Written.{Written}
 use Rattle.fiber_types.specs.declared.answer.Written.the-variants as written·
 use Rattle.fiber_types.specs.Records.{Outcome}
-use Rattle.watchtower.specs.Witness.{recordLen, records}
-use Rattle.watchtower.specs.Update.{updated}
+use Rattle.fiber_witness.specs.Witness.{recordLen, records}
+use Rattle.fiber_witness.specs.Update.{updated}
 
 -- ---- numbers
 

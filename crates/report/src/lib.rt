@@ -2,6 +2,8 @@
 //
 // The writers here take any output. Bytes for which it has no room are dropped, and the answered place says how many there
 // were to be.
+//
+// For `settle`. Uses the upper face and fiber_bytes.
 use fiber_bytes::part_of;
 use fiber_bytes::put;
 use fiber_types::answer::Written;
@@ -11,7 +13,7 @@ ghost use mathlib.Core.List.{[], _∷_};
 ghost use Prim.Native.Nat.{ℕ, _+_, _*_, _≤_, _<_};
 ghost use lib.ListN.{length, getD, set};
 ghost use lib.Seq.{sets};
-ghost use Rattle.watchtower.specs.Witness.{recordLen, records};
+ghost use Rattle.fiber_witness.specs.Witness.{recordLen, records};
 ghost use Rattle.report.specs.Report as S;
 
 fn put_byte(out: &mut [u8], at: usize, b: u8)

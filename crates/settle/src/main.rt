@@ -1,5 +1,5 @@
 // The program `settle`: one byte h and a witness on standard input, the updated state or the refusal on standard output.
-// It only reads, calls and writes; what it prints is proved of `report`.
+// It only reads, calls and writes; what it prints is proved of `report`. Uses report, and the toolchain's libraries for files.
 use fiber_bytes::part_of;
 use libc::STDIN_FILENO;
 use libc::STDOUT_FILENO;

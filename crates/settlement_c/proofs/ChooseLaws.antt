@@ -3,20 +3,19 @@
 use Prim.Native.Nat.{ℕ, suc, _+_, _*_, _≤_, _<_}
 use native.Mathlib.Numerals.{add-one}
 use native.Mathlib.Omega.{arith}
-use mathlib.Core.Path.{_≡_, refl, sym, ap, _∙_}
-use mathlib.Core.List.{List, [], _∷_, _++_}
+use mathlib.Core.Path.{_≡_, sym, ap}
+use mathlib.Core.List.{List, _++_}
 use lib.ListN.{length, getD, drop, drop-of-length-le}
 use lib.Seq.{sets, drop-cons}
 use borrow.Author.Tests.{lt-ltb, le-ltb}
 use Rattle.fiber_bytes.specs.Bytes.{leBytes}
 use Rattle.fiber_bytes.proofs.BytesLaws.{leBytes-length, sets-append}
-use Rattle.watchtower.specs.declared.choice.Handed.{Handed}
-use Rattle.watchtower.specs.declared.choice.ChoiceAnswer.the-variants as answer·
-use Rattle.watchtower.specs.Choice.{ChoiceOutcome}
-use Rattle.settlement_c.specs.Answers.{fields, refused, call}
+use Rattle.fiber_choice.specs.declared.kinds.Handed.{Handed}
+use Rattle.fiber_choice.specs.declared.kinds.ChoiceAnswer.the-variants as answer·
+use Rattle.fiber_choice.specs.Choice.{ChoiceOutcome}
 use Rattle.settlement_c.specs.Settlement.{outCall}
 use Rattle.settlement_c.specs.Choose.{numbers, handedNumbers, saidChoice, chooseCall}
-use Rattle.settlement_c.proofs.AnswersLaws.{call-short, call-refused, call-fields}
+use Rattle.types_c.proofs.AnswersLaws.{call-short, call-refused, call-fields}
 use Rattle.settlement_c.proofs.SettlementLaws.{Called}
 
 -- one number more is written

@@ -1,4 +1,3 @@
--- Laws of the definitions, which proofs cite.
-pub mod AnswersLaws
-pub mod SettlementLaws
+-- Laws of the definitions that callers cite.
 pub mod ChooseLaws
+pub mod SettlementLaws

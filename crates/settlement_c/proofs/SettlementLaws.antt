@@ -1,7 +1,7 @@
 -- Laws of `specs/Settlement.antt`: a call of a writer by what the writer answers.
 -- Assumes nothing.
-use Prim.Native.Nat.{ℕ, _+_, _≤_, _<_}
-use mathlib.Core.Path.{_≡_, sym, ap, _∙_}
+use Prim.Native.Nat.{ℕ, _≤_, _<_}
+use mathlib.Core.Path.{_≡_, refl, sym, ap}
 use mathlib.Core.List.{List, _++_}
 use lib.ListN.{length}
 use lib.Seq.{sets}
@@ -9,14 +9,22 @@ use borrow.Author.Tests.{lt-ltb, le-ltb}
 use Rattle.fiber_bytes.specs.Bytes.{leBytes}
 use Rattle.fiber_types.specs.declared.answer.Written.the-variants as written·
 use Rattle.fiber_types.specs.Records.{Outcome}
-use Rattle.watchtower.specs.Update.{updated}
-use Rattle.settlement_c.specs.Answers.{fields, refused, call}
+use Rattle.fiber_witness.specs.Update.{updated}
 use Rattle.settlement_c.specs.Settlement.{OutCall, saidWritten, outCall, writtenCall, updateCall}
-use Rattle.settlement_c.proofs.AnswersLaws.{call-short, call-refused, call-fields}
+use Rattle.types_c.proofs.AnswersLaws.{call-short, call-refused, call-fields}
 
 -- the return value, the output and the answer buffer of a call
 abbrev pub Called : OutCall → ℕ → List ℕ → List ℕ → Type 0
 Called c status o a = (status ≡ c .status) × ((o ≡ c .out) × (a ≡ c .answer))
+
+-- they are all of it
+pub called : {c : OutCall} {status : ℕ} {o a : List ℕ} → Called c status o a → c ≡ record { status = status; out = o; answer = a }
+called e = rw (e .0, e .1 .0, e .1 .1)
+
+-- an update is called as a writer is
+pub update-written : (h : ℕ) (w out answer : List ℕ) → updateCall h w out answer ≡ writtenCall (updated h w out) out answer
+unfolding updateCall
+update-written h w out answer = refl
 
 module _ (w : Outcome) (out answer : List ℕ) where
   pub written-short : length answer < 24 → Called (writtenCall w out answer) 14 out answer

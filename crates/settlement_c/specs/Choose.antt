@@ -7,21 +7,20 @@ use lib.Dec.{ltb}
 use Rattle.fiber_bytes.specs.Bytes.{leBytes}
 use Rattle.fiber_types.specs.declared.epoch.Epoch.{Epoch}
 use Rattle.fiber_types.specs.declared.tlc.Amount.{Amount}
-use Rattle.watchtower.specs.declared.choice.Asked.{Asked}
-use Rattle.watchtower.specs.declared.choice.Side.the-variants as side·
-use Rattle.watchtower.specs.declared.choice.Way.{Way}
-use Rattle.watchtower.specs.declared.choice.Way.the-variants as way·
-use Rattle.watchtower.specs.declared.choice.Choice.{Choice}
-use Rattle.watchtower.specs.declared.choice.Choice.the-variants as choice·
-use Rattle.watchtower.specs.declared.choice.Key.{Key}
-use Rattle.watchtower.specs.declared.choice.Key.the-variants as key·
-use Rattle.watchtower.specs.declared.choice.Delay.{Delay}
-use Rattle.watchtower.specs.declared.choice.Delay.the-variants as delay·
-use Rattle.watchtower.specs.declared.choice.Handed.{Handed}
-use Rattle.watchtower.specs.declared.choice.ChoiceAnswer.{ChoiceAnswer}
-use Rattle.watchtower.specs.declared.choice.ChoiceAnswer.the-variants as answer·
-use Rattle.watchtower.specs.Choice.{ChoiceOutcome}
-use Rattle.settlement_c.specs.Answers.{Said, refused, fields, call}
+use Rattle.fiber_choice.specs.declared.kinds.Asked.{Asked}
+use Rattle.fiber_choice.specs.declared.kinds.Side.the-variants as side·
+use Rattle.fiber_choice.specs.declared.kinds.Way.the-variants as way·
+use Rattle.fiber_choice.specs.declared.kinds.Choice.{Choice}
+use Rattle.fiber_choice.specs.declared.kinds.Choice.the-variants as choice·
+use Rattle.fiber_choice.specs.declared.kinds.Key.{Key}
+use Rattle.fiber_choice.specs.declared.kinds.Key.the-variants as key·
+use Rattle.fiber_choice.specs.declared.kinds.Delay.{Delay}
+use Rattle.fiber_choice.specs.declared.kinds.Delay.the-variants as delay·
+use Rattle.fiber_choice.specs.declared.kinds.Handed.{Handed}
+use Rattle.fiber_choice.specs.declared.kinds.ChoiceAnswer.{ChoiceAnswer}
+use Rattle.fiber_choice.specs.declared.kinds.ChoiceAnswer.the-variants as answer·
+use Rattle.fiber_choice.specs.Choice.{ChoiceOutcome}
+use Rattle.types_c.specs.Answers.{Said, refused, fields, call}
 use Rattle.settlement_c.specs.Settlement.{OutCall, outCall}
 
 -- the numbers that a choice is asked with

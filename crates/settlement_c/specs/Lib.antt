@@ -1,4 +1,3 @@
--- What the C interface's operations mean.
-pub mod Answers
-pub mod Settlement
+-- What the exports answer and write.
 pub mod Choose
+pub mod Settlement

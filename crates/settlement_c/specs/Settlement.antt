@@ -8,10 +8,10 @@ use Rattle.fiber_bytes.specs.Bytes.{leBytes}
 use Rattle.fiber_types.specs.declared.answer.Written.{Written}
 use Rattle.fiber_types.specs.declared.answer.Written.the-variants as written·
 use Rattle.fiber_types.specs.Records.{Outcome}
-use Rattle.watchtower.specs.declared.witness.WitnessRead.{WitnessRead}
-use Rattle.watchtower.specs.declared.witness.WitnessRead.the-variants as read·
-use Rattle.watchtower.specs.Update.{updated}
-use Rattle.settlement_c.specs.Answers.{Said, refused, fields, Call, call}
+use Rattle.fiber_witness.specs.declared.witness.WitnessRead.{WitnessRead}
+use Rattle.fiber_witness.specs.declared.witness.WitnessRead.the-variants as read·
+use Rattle.fiber_witness.specs.Update.{updated}
+use Rattle.types_c.specs.Answers.{Said, refused, fields, Call, call}
 
 -- n, the number of unlocks, the places of the share part and of the first unlock: 48 bytes in all
 unfoldable pub saidRead : WitnessRead → Said

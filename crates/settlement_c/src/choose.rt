@@ -1,8 +1,8 @@
 // The choice over C. Its answer is sixteen numbers behind the front.
-use crate::put_front;
 use fiber_bytes::put_le64;
 use fiber_types::epoch::Epoch;
 use fiber_types::tlc::Amount;
+use types_c::front::put_front;
 use watchtower::choice;
 use watchtower::choice::Asked;
 use watchtower::choice::Choice;
@@ -16,7 +16,7 @@ ghost use mathlib.Core.Path.{_≡_};
 ghost use Prim.Native.Nat.{_+_, _*_, _≤_};
 ghost use lib.ListN.{length};
 ghost use lib.Seq.{sets};
-ghost use Rattle.watchtower.specs.Choice.{caseOf, choiceOf};
+ghost use Rattle.fiber_choice.specs.Choice.{caseOf, choiceOf};
 ghost use Rattle.settlement_c.specs.Choose as S;
 
 // Numbers one behind the other, eight bytes each.

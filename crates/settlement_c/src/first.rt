@@ -1,11 +1,11 @@
 // Exports for tests: first records. Their answers are those of an update: number, place, and the length that was written.
-use crate::put_front;
 use fiber_bytes::put_le64;
 use fiber_types::answer::Written;
 use fiber_types::tlc::Amount;
+use types_c::front::put_front;
 use watchtower::first;
 ghost use mathlib.Core.Path.{_≡_};
-ghost use Rattle.watchtower.specs.First.{wroteFirstTlc, wroteFirst};
+ghost use Rattle.fiber_choice.specs.First.{wroteFirstTlc, wroteFirst};
 ghost use Rattle.settlement_c.specs.Settlement.{writtenCall};
 
 // The record of one settlement TLC.

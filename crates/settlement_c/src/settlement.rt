@@ -1,14 +1,14 @@
 // The settlement operations. Every offset of every answer buffer stands in include/fiber_settlement.h.
-use crate::put_front;
-use crate::put_two;
 use fiber_bytes::put_le64;
 use fiber_types::answer::Written;
+use types_c::front::put_front;
+use types_c::front::put_two;
 use watchtower::update;
 use watchtower::witness;
 use watchtower::witness::WitnessRead;
 ghost use mathlib.Core.Path.{_≡_};
-ghost use Rattle.watchtower.specs.Witness.{readWitness};
-ghost use Rattle.settlement_c.specs.Answers.{call};
+ghost use Rattle.fiber_witness.specs.Witness.{readWitness};
+ghost use Rattle.types_c.specs.Answers.{call};
 ghost use Rattle.settlement_c.specs.Settlement as S;
 
 // Reads a witness w of a channel whose hashes have h bytes.

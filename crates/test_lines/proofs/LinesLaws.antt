@@ -1,17 +1,16 @@
 -- Laws of `specs/Lines.antt`: each definition by its tests, and a turn of each loop as "the rest from here".
 -- Assumes nothing.
-use Prim.Native.Nat.{ℕ, zero, suc, _+_, _-_, _*_, _/_, _%_, _^_, _≤_, _<_}
+use Prim.Native.Nat.{ℕ, suc, _+_, _-_, _*_, _/_, _%_, _^_, _≤_, _<_}
 use native.Mathlib.Nat.{sub-zero, add-mod}
 use native.Mathlib.Numerals.{add-one}
 use native.Mathlib.Omega.{arith}
 use mathlib.Core.Path.{_≡_, refl, sym, ap, ap₂, _∙_}
-use mathlib.Core.Bool.{Bool, true, false, cond}
+use mathlib.Core.Bool.{Bool, true, false}
 use mathlib.Core.List.{List, [], _∷_}
 use lib.ListN.{length, getD, set, drop, drop-of-length-le}
 use lib.Seq.{sets, set-out, drop-cons}
-use lib.Dec.{eqb, leb}
 use borrow.Author.Tests.{lt-ltb, le-ltb, le-leb, lt-leb, eq-eqb, ne-eqb}
-use Rattle.test_lines.specs.Lines.{digit, hexAt, hexBytes, holds, agree, numberFrom, findIn, find}
+use Rattle.test_lines.specs.Lines.{digit, hexAt, hexBytes, holds, agree, numberFrom, findIn}
 
 left : (n i : ℕ) → i < n → n - i ≡ suc (n - (i + 1))
 left n i h = omega arith

@@ -1,4 +1,5 @@
-// Reads lists of test cases for the programs `vectors` and `replay`: a case to a line, fields parted by single blanks.
+// Reads lists of test cases for the programs `vectors` and `replay`, and for no other crate: a case to a line, fields parted by single blanks.
+// Uses nothing.
 use std::num::wrapping_add_u64;
 ghost use mathlib.Core.Path.{_≡_};
 ghost use Prim.Native.Nat.{ℕ, max, _+_, _*_, _/_, _%_, _^_, _≤_};

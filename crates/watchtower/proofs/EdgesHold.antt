@@ -1,12 +1,11 @@
--- The marked rows hold of the definitions, by computing.
-use mathlib.Core.Path.{_≡_, refl}
-use mathlib.Core.List.{List, map}
-use Rattle.fiber_types.specs.Epoch.{withinBits, units, factor, normalized, scaled, due, dueTest}
-use Rattle.fiber_types.specs.Since.{metricOf, since, millis, ofMetric, absoluteExpiry}
-use Rattle.fiber_types.specs.Records.{known}
-use Rattle.watchtower.specs.Witness.{placesWithin, places, unlessCut, readUnlocks, readShares, readTlcs, readWitness}
-use Rattle.watchtower.specs.Edges.{Input, Result, Edge, said, edges}
+-- The marked rows hold of the definitions: each by the law that stands beside its definition.
+use mathlib.Core.Path.{_≡_}
+use mathlib.Core.List.{map}
+use Rattle.fiber_types.proofs.EdgesLaws.{one-third, two-thirds, due-then, not-due-before, five-seconds, last-second, second-more}
+use Rattle.fiber_types.proofs.RecordsLaws.{known-20}
+use Rattle.fiber_witness.proofs.EdgesLaws.{reads-74, refuses-73}
+use Rattle.watchtower.specs.Edges.{Edge, said, edges}
 
 pub edges-hold : map (λ (e : Edge). said (e .input)) edges ≡ map (λ (e : Edge). e .result) edges
-unfolding said edges withinBits units factor normalized scaled due dueTest metricOf since millis ofMetric absoluteExpiry known placesWithin places unlessCut readUnlocks readShares readTlcs readWitness
-edges-hold = refl
+unfolding said edges
+edges-hold = rw (one-third, two-thirds, due-then, not-due-before, five-seconds, last-second, second-more, reads-74 20 known-20, refuses-73 20 known-20)

@@ -11,9 +11,9 @@ use Rattle.fiber_types.specs.declared.since.Expiry.{Expiry}
 use Rattle.fiber_types.specs.declared.since.Expiry.the-variants as expiry·
 use Rattle.fiber_types.specs.Epoch.{scaled, dueTest}
 use Rattle.fiber_types.specs.Since.{absoluteExpiry}
-use Rattle.watchtower.specs.declared.witness.WitnessRead.{WitnessRead}
-use Rattle.watchtower.specs.declared.witness.WitnessRead.the-variants as read·
-use Rattle.watchtower.specs.Witness.{readWitness}
+use Rattle.fiber_witness.specs.declared.witness.WitnessRead.{WitnessRead}
+use Rattle.fiber_witness.specs.declared.witness.WitnessRead.the-variants as read·
+use Rattle.fiber_witness.specs.Witness.{readWitness}
 
 pub data Input : Type 0 where
   scale : Epoch → ℕ → ℕ → Input

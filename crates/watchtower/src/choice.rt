@@ -1,10 +1,19 @@
 // The choice of an unlock: what may be chosen, and one operation for a first and a later settlement.
-use crate::initial::choose_first;
-use crate::later::choose_later;
-use crate::lent::data_well;
-use crate::lent::tracked_well;
 use fiber_bytes::le64;
 use fiber_bytes::part_of;
+pub use fiber_choice::kinds::Asked;
+pub use fiber_choice::kinds::Choice;
+pub use fiber_choice::kinds::ChoiceAnswer;
+pub use fiber_choice::kinds::Delay;
+pub use fiber_choice::kinds::Found;
+pub use fiber_choice::kinds::Handed;
+pub use fiber_choice::kinds::Key;
+pub use fiber_choice::kinds::Pick;
+pub use fiber_choice::kinds::Side;
+pub use fiber_choice::kinds::Walk;
+pub use fiber_choice::kinds::Way;
+use fiber_first::lent::data_well;
+use fiber_first::lent::tracked_well;
 use fiber_types::epoch::Epoch;
 use fiber_types::epoch::Scaled;
 use fiber_types::epoch::from_full_value;
@@ -13,92 +22,12 @@ use fiber_types::since::Metric;
 use fiber_types::since::from_raw_value;
 use fiber_types::tlc::Amount;
 use fiber_types::tlc::known;
+use fiber_walk::initial::choose_first;
+use fiber_walk::later::choose_later;
 ghost use mathlib.Core.Path.{_≡_};
 ghost use Prim.Native.Nat.{ℕ, _+_, _*_, _≤_};
 ghost use lib.ListN.{length};
-ghost use Rattle.watchtower.specs.Choice as S;
-
-// The numbers that the choice is asked with. The lists come beside them.
-pub struct Asked {
-    pub h: usize,
-    pub for_remote: bool,
-    pub time: u64,
-    pub header: Epoch,
-    pub current: Epoch,
-    pub local_amount: Amount,
-    pub remote_amount: Amount,
-}
-
-// A share of one side: the unlock byte is 0xFE for the remote one, 0xFF for the local one.
-pub enum Side {
-    Remote,
-    Local,
-}
-
-// How a TLC is taken.
-pub enum Way {
-    // Its expiry has passed.
-    Timeout,
-    // By the preimage in the pair at this place of the stored preimages.
-    Preimage(usize),
-}
-
-// The unlock that is chosen.
-pub enum Choice {
-    Share(Side),
-    // The TLC at a place of the state before the unlock, never above 253.
-    Tlc { place: usize, way: Way },
-}
-
-// Which key signs: our settlement key, or the local key of the settlement TLC at a place.
-pub enum Key {
-    Settlement,
-    Tlc(usize),
-}
-
-// The delay of a first settlement; a later one hands out none.
-pub enum Delay {
-    None,
-    Epoch(Epoch),
-}
-
-// The place of what was looked for.
-pub enum Found {
-    At(usize),
-    None,
-}
-
-// A walk over the TLCs: on to the next one with so many pending, or ended by a choice.
-pub enum Walk {
-    On(usize),
-    Ended { choice: Choice, key: Key },
-}
-
-// What a walk comes to.
-pub enum Pick {
-    Chosen { choice: Choice, key: Key },
-    Nothing,
-}
-
-// What is handed out beside the output: unlock, state and args are the lengths of its three parts, place and len the part of
-// the witness, or of the tracked list, that is the chosen TLC's record.
-pub struct Handed {
-    pub choice: Choice,
-    pub amount: Amount,
-    pub key: Key,
-    pub delay: Delay,
-    pub unlock: usize,
-    pub state: usize,
-    pub args: usize,
-    pub place: usize,
-    pub len: usize,
-}
-
-pub enum ChoiceAnswer {
-    Chosen(Handed),
-    // Turned down, or a wait (20 to 22), by a row of document 01's table.
-    Refused { number: usize, place: usize },
-}
+ghost use Rattle.fiber_choice.specs.Choice as S;
 
 // The delay in the lock args: 10 below 36 bytes, 11 where bytes 20 to 27 are no relative epoch since.
 fn delay_of(args: &[u8]) -> Scaled

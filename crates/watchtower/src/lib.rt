@@ -1,14 +1,8 @@
-// The upper library: the settlement witness of a watched channel, its reader and its update, first records, and the choice of
-// an unlock.
-mod built;
+// The upper face: the witness's reader, its update, first records, and the choice of an unlock. Whoever needs one of these uses this crate; every
+// function that it hands out takes any input. Its own are update and choice; reader and first records are handed on from below.
+// Uses the inner crates between the two faces, and the lower face.
 pub mod choice;
-pub mod first;
-mod handed;
-mod initial;
-mod judge;
-mod later;
-mod lent;
-mod preimage;
-mod slot;
 pub mod update;
-pub mod witness;
+
+pub use fiber_first::first;
+pub use fiber_witness::witness;

@@ -1,26 +1,19 @@
 // The update of a settlement witness: its unlocks are judged, and the state left is written.
-use crate::judge::count_standing;
-use crate::judge::judge;
-use crate::witness;
-use crate::witness::WitnessRead;
 use fiber_bytes::put;
 use fiber_types::answer::Written;
+use fiber_witness::judge::Verdict;
+use fiber_witness::judge::count_standing;
+use fiber_witness::judge::judge;
+use fiber_witness::witness;
+use fiber_witness::witness::WitnessRead;
 ghost use mathlib.Core.Path.{_≡_};
 ghost use Prim.Native.Nat.{_+_, _≤_};
 ghost use lib.ListN.{length};
 ghost use lib.Seq.{sets};
 ghost use Rattle.fiber_bytes.specs.Bytes.{part};
-ghost use Rattle.watchtower.specs.Witness.{flat, sharePlace, places};
-ghost use Rattle.watchtower.specs.Update as S;
-ghost use Rattle.watchtower.specs.Marks.{marked};
-
-// What judging the unlocks comes to.
-pub enum Verdict {
-    // Every unlock can be taken.
-    Fine,
-    // Turned down by row 5 or 6, at the first faulty unlock.
-    Refused { number: usize, place: usize },
-}
+ghost use Rattle.fiber_witness.specs.Witness.{flat, sharePlace, places};
+ghost use Rattle.fiber_witness.specs.Update as S;
+ghost use Rattle.fiber_witness.specs.Marks.{marked};
 
 // Writes the records that stand, of n, one behind the other from byte 1 on; answers where they end. Each is written straight
 // into the part of the output that begins where it belongs.

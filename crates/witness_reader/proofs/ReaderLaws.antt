@@ -11,12 +11,13 @@ use lib.Seq.{take-all, getD-take}
 use borrow.Author.Tests.{le-leb, lt-leb, leb-true}
 use Rattle.fiber_types.specs.Records.{known}
 use Rattle.fiber_types.proofs.RecordsLaws.{known-small}
-use Rattle.watchtower.specs.declared.witness.WitnessRead.the-variants as read·
-use Rattle.watchtower.specs.Witness.{recordLen, sharePlace, readUnlocks, readTlcs, readWitness}
-use Rattle.watchtower.proofs.WitnessLaws.{share-small, shares-whole, witness-tlcs, read-fine}
+use Rattle.fiber_witness.specs.declared.witness.WitnessRead.the-variants as read·
+use Rattle.fiber_witness.specs.Witness.{recordLen, sharePlace, readUnlocks, readTlcs, readWitness}
+use Rattle.fiber_witness.proofs.WitnessLaws.{share-small, shares-whole, witness-tlcs, read-fine}
 use Rattle.witness_reader.specs.declared.Front.{Front}
 use Rattle.witness_reader.specs.declared.Front.the-variants.{Whole, Cut}
 use Rattle.witness_reader.specs.Reader.{taken, left, tlcsLen, frontIn, frontOf, knownLen, knownIn}
+use Rattle.fiber_bytes.proofs.CaseLaws.{by-test}
 
 -- ---- what is taken and left
 
@@ -146,10 +147,6 @@ record Found (h : ℕ) (w : List ℕ) (n : ℕ) : Type 0 where
 abbrev FoundIn : ℕ → List ℕ → Front → Type 0
 FoundIn h w (Whole n m) = Found h w n
 FoundIn h w Cut = Unit {0}
-
-by-test : (P : Front → Type 0) (b : Bool) (x y : Front) → (b ≡ true → P x) → (b ≡ false → P y) → P (cond b x y)
-by-test P true x y f g = f refl
-by-test P false x y f g = g refl
 
 found : (h : ℕ) (w : List ℕ) → FoundIn h w (frontOf h w)
 unfolding frontOf frontIn tlcsLen

@@ -1,12 +1,12 @@
 -- What a reader takes and leaves, as the reference's `WitnessReader` does: where fewer bytes are left than asked for, nothing is taken.
 -- With it, a witness up to its unlocks; document 01, "Witness".
 use Prim.Native.Nat.{ℕ, _*_}
-use mathlib.Core.Bool.{Bool, true, false, cond}
+use mathlib.Core.Bool.{Bool, cond}
 use mathlib.Core.List.{List, []}
 use lib.ListN.{length, getD, take, drop}
 use lib.Dec.{leb}
 use Rattle.fiber_types.specs.Records.{known}
-use Rattle.watchtower.specs.Witness.{recordLen}
+use Rattle.fiber_witness.specs.Witness.{recordLen}
 use Rattle.witness_reader.specs.declared.Front.{Front}
 use Rattle.witness_reader.specs.declared.Front.the-variants.{Whole, Cut}
 

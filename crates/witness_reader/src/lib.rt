@@ -1,5 +1,6 @@
 // The reference's `WitnessReader`: a struct that holds the rest of a witness, with `take` and `is_empty` alone. Every function that carries
 // one is proved by hand; the work stands in functions on plain slices, and `front_of` takes plain parameters, so that its callers need no such proof.
+// A form beside the upper face, for whoever wants the reference's; no crate of the core uses it. Uses the two faces and fiber_bytes.
 use fiber_bytes::part_of;
 use fiber_types::tlc::known;
 ghost use mathlib.Core.Path.{_≡_};

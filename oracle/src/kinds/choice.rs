@@ -232,18 +232,14 @@ impl Kind for Choice {
         }
     }
 
-    /// The byte strings, then the numbers, both in the order of the call over C; then the length of the output buffer.
+    fn dump_output(asked: &Asked) -> usize {
+        asked.output
+    }
+
     fn show_input(asked: &Asked) -> String {
         let (local, remote) = (halves(asked.data.local_amount), halves(asked.data.remote_amount));
         format!(
-            "{} {} {} {} {} {} {} {} {} {} {} {} {} {} {} {} {} {}",
-            hex(&asked.args),
-            hex(&asked.data.tlcs),
-            hex(&asked.data.local_key),
-            hex(&asked.data.remote_key),
-            hex(&asked.tracked),
-            hex(&asked.preimages),
-            asked.witness.as_deref().map_or("-".to_string(), hex),
+            "{} {} {} {} {} {} {} {} {} {} {} {} {} {} {} {} {}",
             asked.h,
             u8::from(asked.for_remote),
             u8::from(asked.witness.is_some()),
@@ -254,18 +250,23 @@ impl Kind for Choice {
             local.1,
             remote.0,
             remote.1,
-            asked.output
+            hex(&asked.args),
+            hex(&asked.data.tlcs),
+            hex(&asked.data.local_key),
+            hex(&asked.data.remote_key),
+            hex(&asked.tracked),
+            hex(&asked.preimages),
+            hex(asked.witness.as_deref().unwrap_or(&[]))
         )
     }
 
-    /// Unlock, state and new args as one byte string, then the answer's fields from byte 16 on in their order.
+    /// The output is unlock, state and new args, one behind the other.
     fn show_value(chosen: &Chosen) -> String {
         let byte = chosen.unlock[0];
         let kind = if byte >= 0xfe { 0 } else { 1 + chosen.unlock[1] };
         let (low, high) = halves(chosen.amount);
         format!(
-            "{} {kind} {byte} {low} {high} {} {} {} {} {} {} {} {} {} {}",
-            hex(&[&chosen.unlock[..], &chosen.state, &chosen.new_args].concat()),
+            "{kind} {byte} {low} {high} {} {} {} {} {} {} {} {} {} {} : {}",
             u8::from(chosen.key.is_some()),
             chosen.key.unwrap_or(0),
             u8::from(chosen.delay.is_some()),
@@ -276,6 +277,7 @@ impl Kind for Choice {
             chosen.state.len(),
             chosen.new_args.len(),
             chosen.pair,
+            hex(&[&chosen.unlock[..], &chosen.state, &chosen.new_args].concat())
         )
     }
 }

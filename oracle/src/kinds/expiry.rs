@@ -99,6 +99,6 @@ impl Kind for Expiry {
     }
 
     fn show_value(expiry: &Option<u64>) -> String {
-        expiry.map_or("none".to_string(), |ms| ms.to_string())
+        expiry.map_or("0 0".to_string(), |ms| format!("1 {ms}"))
     }
 }

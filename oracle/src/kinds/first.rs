@@ -212,26 +212,28 @@ impl Kind for First {
         }
     }
 
-    /// The byte strings, then the numbers, both in the order of the call over C; then the length of the output buffer.
+    fn dump_output(i: &Input) -> usize {
+        i.output
+    }
+
     fn show_input(i: &Input) -> String {
         let (local, remote) = (halves(i.data.local_amount), halves(i.data.remote_amount));
         format!(
-            "{} {} {} {} {} {} {} {} {} {}",
-            hex(&i.data.tlcs),
-            hex(&i.data.local_key),
-            hex(&i.data.remote_key),
+            "{} {} {} {} {} {} {} {} {}",
             i.h,
             u8::from(i.for_remote),
             local.0,
             local.1,
             remote.0,
             remote.1,
-            i.output
+            hex(&i.data.tlcs),
+            hex(&i.data.local_key),
+            hex(&i.data.remote_key)
         )
     }
 
     fn show_value(state: &Vec<u8>) -> String {
-        hex(state)
+        format!("{} : {}", state.len(), hex(state))
     }
 }
 

@@ -71,6 +71,8 @@ macro_rules! hash_kind {
             const ABOUT: &'static str = $about;
             const EXPORT: Option<(&'static str, bool)> = Some(($export, port::$port.is_some()));
             const DUMP_LINES: usize = 56;
+            // The call has a status by convention alone, and no answer buffer.
+            const DUMP_FRONT: &'static str = "0";
 
             fn edges() -> Vec<Message> {
                 edges()
@@ -96,11 +98,14 @@ macro_rules! hash_kind {
             fn port(message: &Message, random: &mut Random) -> Called<[u8; 32]> {
                 port::hash(random, port::$port.expect("checked by the caller"), message)
             }
+            fn dump_output(_: &Message) -> usize {
+                32
+            }
             fn show_input(message: &Message) -> String {
                 hex(message)
             }
             fn show_value(digest: &[u8; 32]) -> String {
-                hex(digest)
+                format!(": {}", hex(digest))
             }
         }
     };

@@ -73,11 +73,15 @@ impl Kind for Update {
         }
     }
 
+    fn dump_output(i: &Input) -> usize {
+        i.output
+    }
+
     fn show_input(i: &Input) -> String {
-        format!("{} {} {}", i.h, hex(&i.witness), i.output)
+        format!("{} {}", i.h, hex(&i.witness))
     }
 
     fn show_value(state: &Vec<u8>) -> String {
-        hex(state)
+        format!("{} : {}", state.len(), hex(state))
     }
 }

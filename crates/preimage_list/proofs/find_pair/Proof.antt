@@ -118,11 +118,11 @@ use denote.Triple.Table.{entered, cited}
 use denote.Triple.Walked.{says, Stays, stay-none-slice, stay-none, walkOf, goes-none-slice, goes-none, Walks, ends-at, walked, walk-meets}
 use denote.Exit.{yes}
 use denote.Triple.Clauses.{ensured, lasts}
-use Rattle.watchtower.specs.Lent.{same}
-use Rattle.watchtower.specs.declared.choice.Found.{Found}
-use Rattle.watchtower.specs.declared.choice.Found.the-variants.{At, None}
-use Rattle.watchtower.proofs.choice.Found as F
-use Rattle.watchtower.proofs.choice.Found.Laws as F′
+use Rattle.fiber_choice.specs.Lent.{same}
+use Rattle.fiber_choice.specs.declared.kinds.Found.{Found}
+use Rattle.fiber_choice.specs.declared.kinds.Found.the-variants.{At, None}
+use Rattle.fiber_choice.proofs.kinds.Found as F
+use Rattle.fiber_choice.proofs.kinds.Found.Laws as F′
 use Rattle.preimage_list.specs.PreimageList.{findIn}
 use Rattle.preimage_list.specs.declared.Preimage.{Preimage}
 use Rattle.preimage_list.proofs.PreimageListLaws.{noPair, Sized, find-agrees}

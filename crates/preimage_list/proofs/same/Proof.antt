@@ -3,8 +3,8 @@ use Prim.Native.Nat.{_≤_, _-_}
 use mathlib.Core.Path.{_≡_, refl}
 use borrow.Author.Needs.{needs}
 use lib.ListN.{drop}
-use Rattle.watchtower.specs.Lent.{same}
-use Rattle.watchtower.proofs.LentLaws.{same-differ, same-agree, same-end}
+use Rattle.fiber_choice.specs.Lent.{same}
+use Rattle.fiber_choice.proofs.LentLaws.{same-differ, same-agree, same-end}
 use Rattle.preimage_list.proofs.same.Statement.{statement}
 use Rattle.preimage_list.proofs.same.Tie as tie
 

@@ -4,7 +4,7 @@ use Prim.Native.Nat.{_+_, _-_, _*_, _≤_}
 use mathlib.Core.Path.{_≡_, refl}
 use native.Mathlib.Omega.{arith}
 use lib.ListN.{length, drop}
-use Rattle.watchtower.specs.Witness.{records}
+use Rattle.fiber_witness.specs.Witness.{records}
 use Rattle.report.specs.Report.{tlcLines}
 use Rattle.report.proofs.ReportLaws.{part-short, Left, lines-start, lines-more, lines-end, lines-short, record-in, record-next}
 use borrow.Author.Needs.{needs}

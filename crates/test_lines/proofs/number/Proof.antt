@@ -1,6 +1,6 @@
 -- The number so far, and the rest from here.
 use Prim.Native.Nat.{_-_}
-use mathlib.Core.Path.{_≡_, refl, sym, _∙_}
+use mathlib.Core.Path.{_≡_, refl, _∙_}
 use lib.ListN.{length, drop}
 use Rattle.test_lines.specs.Lines.{numberFrom}
 use Rattle.test_lines.proofs.LinesLaws.{number-more, number-end}

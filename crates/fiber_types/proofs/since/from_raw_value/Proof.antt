@@ -1,6 +1,4 @@
 -- Each field is the definition's.
-use Prim.Native.Nat.{_/_, _%_}
-use mathlib.Core.Path.{ap}
 use Rattle.fiber_types.specs.Since.{since}
 use borrow.Author.Needs.{needs}
 use Rattle.fiber_types.proofs.since.from_raw_value.Statement.{statement}

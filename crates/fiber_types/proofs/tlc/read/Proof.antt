@@ -1,5 +1,5 @@
 -- The tests in order, then the fields.
-use mathlib.Core.Path.{sym, ap, _∙_}
+use mathlib.Core.Path.{sym, _∙_}
 use native.Mathlib.Omega.{arith}
 use borrow.Author.Tests.{not-true, not-false}
 use Rattle.fiber_types.proofs.RecordsLaws.{known-small, tlc-unknown, tlc-cut, tlc-whole, fields}

@@ -1,7 +1,7 @@
 -- The buffer's length, then what the choice says.
-use mathlib.Core.Path.{sym, ap, _∙_}
+use mathlib.Core.Path.{sym, _∙_}
 use Rattle.settlement_c.specs.Choose.{numbers, handedNumbers}
-use Rattle.settlement_c.proofs.AnswersLaws.{behind}
+use Rattle.types_c.proofs.AnswersLaws.{behind}
 use Rattle.settlement_c.proofs.ChooseLaws.{choose-short, choose-refused, choose-handed, numbers-of}
 use borrow.Author.Needs.{needs}
 use Rattle.settlement_c.proofs.choose.fiber_settlement_choose.Statement.{statement}

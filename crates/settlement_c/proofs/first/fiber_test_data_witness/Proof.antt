@@ -1,7 +1,7 @@
 -- The buffer's length, then what the writer says.
 use mathlib.Core.Path.{sym, _∙_}
 use Rattle.fiber_bytes.specs.Bytes.{leBytes}
-use Rattle.settlement_c.proofs.AnswersLaws.{behind}
+use Rattle.types_c.proofs.AnswersLaws.{behind}
 use Rattle.settlement_c.proofs.SettlementLaws.{written-short, written-refused, written-bytes}
 use borrow.Author.Needs.{needs}
 use Rattle.settlement_c.proofs.first.fiber_test_data_witness.Statement.{statement}

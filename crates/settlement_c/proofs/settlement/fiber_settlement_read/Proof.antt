@@ -3,7 +3,7 @@ use mathlib.Core.Path.{sym, ap, _∙_}
 use mathlib.Core.List.{_++_}
 use Rattle.fiber_bytes.specs.Bytes.{leBytes}
 use Rattle.settlement_c.specs.Settlement.{saidRead}
-use Rattle.settlement_c.proofs.AnswersLaws.{pair-length, triple-length, more, call-short, call-refused, call-fields}
+use Rattle.types_c.proofs.AnswersLaws.{pair-length, triple-length, more, call-short, call-refused, call-fields}
 use borrow.Author.Needs.{needs}
 use Rattle.settlement_c.proofs.settlement.fiber_settlement_read.Statement.{statement}
 use Rattle.settlement_c.proofs.settlement.fiber_settlement_read.Tie as tie

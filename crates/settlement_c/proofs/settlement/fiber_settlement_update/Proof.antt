@@ -2,7 +2,7 @@
 use mathlib.Core.Path.{sym, _∙_}
 use Rattle.fiber_bytes.specs.Bytes.{leBytes}
 use Rattle.settlement_c.specs.Settlement.{updateCall}
-use Rattle.settlement_c.proofs.AnswersLaws.{behind}
+use Rattle.types_c.proofs.AnswersLaws.{behind}
 use Rattle.settlement_c.proofs.SettlementLaws.{written-short, written-refused, written-bytes}
 use borrow.Author.Needs.{needs}
 use Rattle.settlement_c.proofs.settlement.fiber_settlement_update.Statement.{statement}

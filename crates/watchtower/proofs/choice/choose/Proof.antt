@@ -3,7 +3,7 @@
 use mathlib.Core.Path.{sym, _∙_}
 use borrow.Author.Tests.{not-true, not-false}
 use Rattle.fiber_types.proofs.RecordsLaws.{known-small}
-use Rattle.watchtower.proofs.ChoiceLaws.{delay-epoch, well-lent, choice-unwell, choice-refused, choice-later, choice-first}
+use Rattle.fiber_choice.proofs.ChoiceLaws.{delay-epoch, well-lent, choice-unwell, choice-refused, choice-later, choice-first}
 use borrow.Author.Needs.{needs}
 use Rattle.watchtower.proofs.choice.choose.Statement.{statement}
 use Rattle.watchtower.proofs.choice.choose.Tie as tie

@@ -2,8 +2,8 @@
 use mathlib.Core.Path.{ap, _∙_}
 use borrow.Author.Tests.{not-true, not-false}
 use Rattle.fiber_types.specs.declared.epoch.Scaled.the-variants as scaled·
-use Rattle.watchtower.specs.Choice.{ofMetric}
-use Rattle.watchtower.proofs.LaterLaws.{delay-short, delay-absolute, delay-metric}
+use Rattle.fiber_choice.specs.Choice.{ofMetric}
+use Rattle.fiber_choice.proofs.LaterLaws.{delay-short, delay-absolute, delay-metric}
 use borrow.Author.Needs.{needs}
 use Rattle.watchtower.proofs.choice.delay_of.Statement.{statement}
 use Rattle.watchtower.proofs.choice.delay_of.Tie as tie

@@ -4,7 +4,7 @@ use mathlib.Core.Path.{sym, _∙_}
 use native.Mathlib.Omega.{arith}
 use borrow.Author.Tests.{not-true, not-false}
 use Rattle.fiber_types.proofs.RecordsLaws.{known-small}
-use Rattle.watchtower.proofs.ChoiceLaws.{well-unknown, well-data, well-tracked, well-pairs, well-header, well-current, well-tlcs}
+use Rattle.fiber_choice.proofs.ChoiceLaws.{well-unknown, well-data, well-tracked, well-pairs, well-header, well-current, well-tlcs}
 use borrow.Author.Needs.{needs}
 use Rattle.watchtower.proofs.choice.lent_well.Statement.{statement}
 use Rattle.watchtower.proofs.choice.lent_well.Tie as tie

@@ -1,5 +1,5 @@
 -- What was handed out names the part; without it the part is empty.
-use Rattle.watchtower.specs.Choice.{recordOf}
+use Rattle.fiber_choice.specs.Choice.{recordOf}
 use borrow.Author.Needs.{needs}
 use Rattle.watchtower.proofs.choice.record_of.Statement.{statement}
 use Rattle.watchtower.proofs.choice.record_of.Tie as tie

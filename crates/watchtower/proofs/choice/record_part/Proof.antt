@@ -1,5 +1,5 @@
 -- The flag says which of the two lists it is a part of.
-use Rattle.watchtower.specs.Choice.{recordPart}
+use Rattle.fiber_choice.specs.Choice.{recordPart}
 use borrow.Author.Needs.{needs}
 use Rattle.watchtower.proofs.choice.record_part.Statement.{statement}
 use Rattle.watchtower.proofs.choice.record_part.Tie as tie

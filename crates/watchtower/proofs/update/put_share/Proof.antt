@@ -1,8 +1,8 @@
 -- One copy, of zeros or of the share, by what the test of the definition says.
 use mathlib.Core.Path.{ap, _∙_}
 use lib.Seq.{sets}
-use Rattle.watchtower.specs.Update.{shareLeft}
-use Rattle.watchtower.proofs.UpdateLaws.{part-between}
+use Rattle.fiber_witness.specs.Update.{shareLeft}
+use Rattle.fiber_witness.proofs.UpdateLaws.{part-between}
 use borrow.Author.Needs.{needs}
 use Rattle.watchtower.proofs.update.put_share.Statement.{statement}
 use Rattle.watchtower.proofs.update.put_share.Tie as tie

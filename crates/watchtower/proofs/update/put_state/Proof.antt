@@ -4,8 +4,8 @@ use mathlib.Core.Path.{ap, _∙_}
 use native.Mathlib.Omega.{arith}
 use lib.ListN.{length, length-set}
 use lib.Seq.{length-sets}
-use Rattle.watchtower.specs.Marks.{marked}
-use Rattle.watchtower.proofs.UpdateLaws.{standing-few, state-writes}
+use Rattle.fiber_witness.specs.Marks.{marked}
+use Rattle.fiber_witness.proofs.UpdateLaws.{standing-few, state-writes}
 use borrow.Author.Needs.{needs}
 use Rattle.watchtower.proofs.update.put_state.Statement.{statement}
 use Rattle.watchtower.proofs.update.put_state.Tie as tie

@@ -7,7 +7,7 @@ use native.Mathlib.Omega.{arith}
 use borrow.Author.Tests.{not-true, not-false}
 use lib.ListN.{take, drop}
 use lib.Seq.{sets}
-use Rattle.watchtower.proofs.UpdateLaws.{Writing, sets-part, part-between, writing-start, writing-from, writing-kept, writing-gone, writing-end}
+use Rattle.fiber_witness.proofs.UpdateLaws.{Writing, sets-part, part-between, writing-start, writing-from, writing-kept, writing-gone, writing-end}
 use borrow.Author.Needs.{needs}
 use Rattle.watchtower.proofs.update.put_tlcs.Statement.{statement}
 use Rattle.watchtower.proofs.update.put_tlcs.Tie as tie

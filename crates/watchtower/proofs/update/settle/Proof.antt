@@ -1,7 +1,7 @@
 -- The judgement's verdict decides; where it is fine, the state left has 73 bytes and those of the records that stand.
 -- The marks say which places are settled, so the records that stand by them are those of the judgement.
 use native.Mathlib.Omega.{arith}
-use Rattle.watchtower.proofs.UpdateLaws.{counted, counted-room, counted-flat, counted-size, settled-refused, settled-short, settled-written}
+use Rattle.fiber_witness.proofs.UpdateLaws.{counted, counted-room, counted-flat, counted-size, settled-refused, settled-short, settled-written}
 use borrow.Author.Needs.{needs}
 use Rattle.watchtower.proofs.update.settle.Statement.{statement}
 use Rattle.watchtower.proofs.update.settle.Tie as tie

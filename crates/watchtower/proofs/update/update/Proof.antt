@@ -2,8 +2,8 @@
 -- A witness that is read whole has its TLCs and its shares, and its TLC count is a byte.
 use mathlib.Core.Path.{sym, _∙_}
 use native.Mathlib.Omega.{arith}
-use Rattle.watchtower.proofs.WitnessLaws.{read-fine}
-use Rattle.watchtower.proofs.UpdateLaws.{updated-refused, updated-whole}
+use Rattle.fiber_witness.proofs.WitnessLaws.{read-fine}
+use Rattle.fiber_witness.proofs.UpdateLaws.{updated-refused, updated-whole}
 use borrow.Author.Needs.{needs}
 use Rattle.watchtower.proofs.update.update.Statement.{statement}
 use Rattle.watchtower.proofs.update.update.Tie as tie

@@ -1,0 +1,2 @@
+-- What BLAKE2b and CKB's hash mean.
+pub mod Blake2b

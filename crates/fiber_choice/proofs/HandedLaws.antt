@@ -1,0 +1,682 @@
+-- Laws of `specs/Plan.antt`, and of what is handed out by `specs/Choice.antt`: the records of a tracked list, and runs of stores.
+-- Assumes nothing.
+use Prim.Native.Nat.{ℕ, zero, suc, _+_, _-_, _*_, _/_, _≤_, _<_}
+use native.Mathlib.Nat.{zero-mul, suc-mul, mul-le-mul-right, div-mul-le-self}
+use native.Mathlib.Numerals.{add-one}
+use native.Mathlib.Omega.{arith}
+use mathlib.Core.Path.{_≡_, refl, sym, ap, subst, _∙_}
+use mathlib.Core.Bool.{Bool, true, false, cond}
+use mathlib.Core.List.{List, [], _∷_, _++_, append-assoc}
+use mathlib.Core.Logic.{_⊎_, inl, inr, ⊎-elim}
+use lib.Dec.{eqb}
+use lib.ListN.{length, getD, take, drop, set, replicate, drop-of-length-le, length-take, length-drop, length-append}
+use lib.Seq.{sets, length-sets, sets-eq, take-all, take-at, drop-at, take-set-le, drop-set-lt, length-take-le}
+use borrow.Author.Tests.{eq-eqb, ne-eqb, le-leb, lt-leb, eqb-true, eqb-false}
+use Rattle.fiber_bytes.specs.Bytes.{part}
+use Rattle.fiber_bytes.proofs.BytesLaws.{part-length, sets-append, part-part, part-behind}
+use Rattle.fiber_types.specs.declared.tlc.Amount.{Amount}
+use Rattle.fiber_types.specs.Records.{amountAt, witnessLen, unlockBytes, wroteUnlock}
+use Rattle.fiber_types.proofs.RecordsLaws.{unlock-written, unlockBytes-length, at-least, amount-part}
+use Rattle.fiber_blake2b.specs.Blake2b.{ckbHash}
+use Rattle.fiber_blake2b.proofs.Blake2bLaws.{ckb-length}
+use Rattle.fiber_choice.specs.declared.kinds.Side.the-variants as side·
+use Rattle.fiber_choice.specs.declared.kinds.Way.{Way}
+use Rattle.fiber_choice.specs.declared.kinds.Way.the-variants as way·
+use Rattle.fiber_choice.specs.declared.kinds.Choice.{Choice}
+use Rattle.fiber_choice.specs.declared.kinds.Choice.the-variants as choice·
+use Rattle.fiber_choice.specs.declared.kinds.Plan.{Plan}
+use Rattle.fiber_witness.specs.Witness.{recordLen, records, flat, stateBytes, member}
+use Rattle.fiber_witness.specs.Update.{keep, shareLeft}
+use Rattle.fiber_choice.specs.Lent.{entries, trackedLen, trackedRecords, pairLen}
+use Rattle.fiber_choice.specs.declared.kinds.ChoiceAnswer.the-variants as answer·
+use Rattle.fiber_choice.specs.Choice.{Picked, newArgs, sideByte, wayBytes, unlockOf, sideTaken, takes, stateAfter, amountOf, recordSize, handedOut}
+use Rattle.fiber_choice.specs.Plan.{planOf, planAfter, planUnlock, joined, Below, Within, PairBelow, Paired}
+use Rattle.fiber_witness.proofs.WitnessLaws.{Even, even-none, even-more, flat-even, state-size}
+use Rattle.fiber_witness.proofs.UpdateLaws.{keep-cons, left-length}
+use Rattle.fiber_choice.proofs.LentLaws.{tracked-length, tracked-at, entries-length, entry-at, entry-room}
+
+-- ---- parts
+
+-- the part that a start and an end in two steps name
+pub part-span : (s : List ℕ) (from a b : ℕ) → take (from + a + b - from) (drop from s) ≡ part s from (a + b)
+part-span s from a b =
+    let e : from + a + b - from ≡ a + b = omega arith in
+    ap (λ (k : ℕ). take k (drop from s)) e
+
+-- ---- runs of stores
+
+-- stores from a place on leave what is before it
+take-sets : (a l : List ℕ) (i n : ℕ) → n ≤ i → take n (sets l i a) ≡ take n l
+take-sets [] l i n h = refl
+take-sets (x ∷ a) l i n h = take-sets a (set l i x) (suc i) n (omega arith) ∙ take-set-le n l i x h
+
+-- and what is behind them
+drop-sets : (a l : List ℕ) (i n : ℕ) → i + length a ≤ n → drop n (sets l i a) ≡ drop n l
+drop-sets [] l i n h = refl
+drop-sets (x ∷ a) l i n h = drop-sets a (set l i x) (suc i) n (omega arith) ∙ drop-set-lt n l i x (omega arith)
+
+-- stores that are stored over, by no fewer, are gone
+pub sets-over : (l a b : List ℕ) (i : ℕ) → i + length b ≤ length l → length a ≤ length b → sets (sets l i a) i b ≡ sets l i b
+sets-over l a b i h g =
+    let r : i + length b ≤ length (sets l i a) = omega (arith, length-sets l i a) in
+    let p : i + length a ≤ i + length b = omega arith in
+    let q : i ≤ i = omega arith in
+    sets-eq b (sets l i a) i r
+    ∙ ap (λ (f : List ℕ). f ++ b ++ drop (i + length b) (sets l i a)) (take-sets a l i i q)
+    ∙ ap (λ (e : List ℕ). take i l ++ b ++ e) (drop-sets a l i (i + length b) p)
+    ∙ sym (sets-eq b l i h)
+
+-- what was stored is read back
+pub sets-back : (l a : List ℕ) (i n : ℕ) → n ≡ length a → i + length a ≤ length l → take n (drop i (sets l i a)) ≡ a
+sets-back l a i n e h =
+    ap (λ (r : List ℕ). take n (drop i r)) (sets-eq a l i h ∙ append-assoc (take i l) a (drop (i + length a) l))
+    ∙ ap (take n) (drop-at (take i l) (a ++ drop (i + length a) l) i (length-take-le i l (omega arith)))
+    ∙ take-at a (drop (i + length a) l) n (sym e)
+
+-- a run of stores from a place on, and another right behind it
+pub sets-next : (o a b : List ℕ) (i j : ℕ) {l₁ l₂ : List ℕ} → l₁ ≡ sets o i a → l₂ ≡ sets l₁ j b → j ≡ i + length a → l₂ ≡ sets o i (a ++ b)
+sets-next o a b i j e f g =
+    f
+    ∙ ap (λ (k : List ℕ). sets k j b) e
+    ∙ ap (λ (n : ℕ). sets (sets o i a) n b) g
+    ∙ sym (sets-append a b o i)
+
+-- ---- the records of a tracked list
+
+-- an entry of a tracked list, as the code has its size
+pub tracked-size : (h : ℕ) → 98 + h ≡ trackedLen h
+tracked-size h = omega arith
+
+module _ (h : ℕ) (s : List ℕ) where
+  -- the records of a tracked list
+  abbrev pub tlcs : List (List ℕ)
+  tlcs = trackedRecords (entries (trackedLen h) s)
+
+  -- as many as there are whole entries
+  pub tlcs-length : length tlcs ≡ length s / (98 + h)
+  tlcs-length = rw (tracked-size h) (tracked-length (entries (trackedLen h) s) ∙ entries-length (trackedLen h) s)
+
+  -- each is a part of the list
+  pub tlc-at : (i : ℕ) → i < length s / (98 + h) → getD tlcs i [] ≡ part s (i * (98 + h) + 33) (recordLen h)
+  tlc-at i g =
+      rw (tracked-size h)
+      (tracked-at (entries (trackedLen h) s) i
+      ∙ ap (drop 33) (entry-at (trackedLen h) s i (rw (tracked-size h) at g))
+      ∙ part-behind s (i * trackedLen h) 33 (recordLen h))
+
+-- ---- lists of records that have r bytes each
+
+-- those of the tracked TLCs
+pub each-tracked : (r m : ℕ) (s : List ℕ) → m * (33 + r) ≤ length s → Even r (trackedRecords (records (33 + r) m s))
+unfolding trackedRecords records
+each-tracked r zero s h = even-none
+each-tracked r (suc m) s h =
+    let e : length (drop 33 (take (33 + r) s)) ≡ r = omega (arith, length-drop 33 (take (33 + r) s), length-take (33 + r) s, suc-mul m (33 + r)) in
+    even-more e
+    (each-tracked r m (drop (33 + r) s) (omega (arith, length-drop (33 + r) s, suc-mul m (33 + r))))
+
+-- so many bytes
+pub tlcs-flat : (h : ℕ) (s : List ℕ) → length (flat (tlcs h s)) ≡ length s / (98 + h) * recordLen h
+unfolding entries
+tlcs-flat h s =
+    flat-even (each-tracked (recordLen h) (length s / trackedLen h) s (div-mul-le-self (length s) (trackedLen h)))
+    ∙ ap (λ (k : ℕ). k * recordLen h) (tlcs-length h s)
+
+-- ---- all but one
+
+module _ (k : ℕ) where
+  -- the one that is left out is not among them
+  pub keep-past : (i : ℕ) (rs : List (List ℕ)) → (k < i) ⊎ (i + length rs ≤ k) → keep (k ∷ []) i rs ≡ rs
+  unfolding keep member
+  keep-past i [] h = refl
+  keep-past i (r ∷ rs) h =
+      rw (ne-eqb i k (⊎-elim (λ g. omega arith) (λ g. omega arith) h))
+      (ap (λ (l : List (List ℕ)). r ∷ l) (keep-past (i + 1) rs (⊎-elim (λ g. inl (omega arith)) (λ g. inr (omega arith)) h)))
+
+  -- it is among them
+  pub keep-but : (i : ℕ) (rs : List (List ℕ)) → i ≤ k → k < i + length rs → suc (length (keep (k ∷ []) i rs)) ≡ length rs
+  unfolding keep member
+  keep-but i [] h g = absurd (omega arith)
+  keep-but i (r ∷ rs) h g = go (eqb i k) refl (λ f. keep-but (i + 1) rs f (omega arith))
+    where
+      go : (b : Bool) → eqb i k ≡ b → (i + 1 ≤ k → suc (length (keep (k ∷ []) (i + 1) rs)) ≡ length rs)
+          → suc (length (cond (cond b true false) (keep (k ∷ []) (i + 1) rs) (r ∷ keep (k ∷ []) (i + 1) rs))) ≡ suc (length rs)
+      go true e f = ap (λ (l : List (List ℕ)). suc (length l)) (keep-past (i + 1) rs (inl (omega (arith, eqb-true i k e))))
+      go false e f =
+          let n = eqb-false i k e in
+          ap suc (f (omega (arith, n)))
+
+-- no more bytes are kept than there are
+pub keep-small : (s : List ℕ) (i : ℕ) (rs : List (List ℕ)) → length (flat (keep s i rs)) ≤ length (flat rs)
+unfolding keep flat
+keep-small s i [] = omega arith
+keep-small s i (r ∷ rs) = go (member i s) (keep-small s (i + 1) rs)
+  where
+    go : (b : Bool) → length (flat (keep s (i + 1) rs)) ≤ length (flat rs) → length (flat (cond b (keep s (i + 1) rs) (r ∷ keep s (i + 1) rs))) ≤ length (r ++ flat rs)
+    go true h = omega (arith, length-append r (flat rs))
+    go false h = omega (arith, length-append r (flat rs), length-append r (flat (keep s (i + 1) rs)))
+
+-- ---- writing the records of a tracked list, but for one
+
+module _ (h : ℕ) (s : List ℕ) (skip : ℕ) where
+  -- those kept from place i on
+  abbrev pub kept : ℕ → List ℕ
+  kept i = flat (keep (skip ∷ []) i (drop i (tlcs h s)))
+
+  -- The loop that writes them: to write what is left, from here, gives what the whole gives.
+  pub record Putting (out₀ : List ℕ) (at : ℕ) (out : List ℕ) (from end i : ℕ) : Type 0 where
+    pub low : i ≤ length s / (98 + h)
+    pub place : from ≡ i * (98 + h) + 33
+    pub same : length out ≡ length out₀
+    pub ends : end + length (kept i) ≡ at + length (kept 0)
+    pub writes : sets out end (kept i) ≡ sets out₀ at (kept 0)
+
+  -- before the first, all is left
+  pub putting-start : (out : List ℕ) (at : ℕ) → Putting out at out 33 at 0
+  putting-start out at = record { low = omega arith; place = omega (arith, zero-mul (98 + h)); same = refl; ends = refl; writes = refl }
+
+  module _ (out₀ : List ℕ) (at : ℕ) (out : List ℕ) (from end i : ℕ) (c : Putting out₀ at out from end i) where
+    -- no more is left than there is
+    pub putting-room : end + length (kept i) ≤ at + length (flat (tlcs h s))
+    putting-room = omega (arith, c .ends, keep-small (skip ∷ []) 0 (tlcs h s))
+
+    -- behind the last record nothing is left
+    kept-none : length s / (98 + h) ≤ i → kept i ≡ []
+    unfolding flat keep
+    kept-none g =
+        let f : length (tlcs h s) ≤ i = omega (arith, tlcs-length h s) in
+        ap (λ (l : List (List ℕ)). flat (keep (skip ∷ []) i l)) (drop-of-length-le (tlcs h s) f)
+
+    -- so all is written
+    pub putting-end : length s / (98 + h) ≤ i → (end ≡ at + length (kept 0)) × (out ≡ sets out₀ at (kept 0))
+    putting-end g = (omega (arith, c .ends, ap length (kept-none g)), rw (kept-none g) at (c .writes))
+
+    module _ (g : i < length s / (98 + h)) where
+      -- the place of the next one
+      next-place : from + (98 + h) ≡ (i + 1) * (98 + h) + 33
+      next-place = omega (arith, c .place, ap (λ (k : ℕ). k * (98 + h)) (add-one i), suc-mul i (98 + h))
+
+      -- the entry is whole
+      pub putting-from : from + recordLen h ≤ length s
+      putting-from = omega (arith, c .place, entry-room (98 + h) s i g)
+
+      -- so is the next one's place within reach
+      pub putting-next : from + (98 + h) ≤ length s + 33
+      putting-next = omega (arith, c .place, entry-room (98 + h) s i g)
+
+      -- those kept, by whether this one is
+      kept-cons : (b : Bool) → eqb i skip ≡ b
+          → kept i ≡ flat (cond b (keep (skip ∷ []) (i + 1) (drop (i + 1) (tlcs h s))) (part s from (recordLen h) ∷ keep (skip ∷ []) (i + 1) (drop (i + 1) (tlcs h s))))
+      unfolding member
+      kept-cons b e =
+          let f : i < length (tlcs h s) = omega (arith, tlcs-length h s) in
+          ap flat
+          (keep-cons (skip ∷ []) (tlcs h s) i f
+          ∙ ap (λ (t : Bool). cond (cond t true false) (keep (skip ∷ []) (i + 1) (drop (i + 1) (tlcs h s))) (getD (tlcs h s) i [] ∷ keep (skip ∷ []) (i + 1) (drop (i + 1) (tlcs h s)))) e
+          ∙ go b
+          ∙ ap (λ (r : List ℕ). cond b (keep (skip ∷ []) (i + 1) (drop (i + 1) (tlcs h s))) (r ∷ keep (skip ∷ []) (i + 1) (drop (i + 1) (tlcs h s))))
+          (tlc-at h s i g ∙ ap (λ (k : ℕ). part s k (recordLen h)) (sym (c .place))))
+        where
+          go : (t : Bool) → cond (cond t true false) (keep (skip ∷ []) (i + 1) (drop (i + 1) (tlcs h s))) (getD (tlcs h s) i [] ∷ keep (skip ∷ []) (i + 1) (drop (i + 1) (tlcs h s)))
+              ≡ cond t (keep (skip ∷ []) (i + 1) (drop (i + 1) (tlcs h s))) (getD (tlcs h s) i [] ∷ keep (skip ∷ []) (i + 1) (drop (i + 1) (tlcs h s)))
+          go true = refl
+          go false = refl
+
+      -- the one that is left out is passed
+      pub putting-gone : i ≡ skip → Putting out₀ at out (from + (98 + h)) end (i + 1)
+      putting-gone e =
+          let f : kept i ≡ kept (i + 1) = kept-cons true (eq-eqb i skip e) in
+          record { low = omega arith; place = next-place; same = c .same; ends = omega (arith, c .ends, ap length f); writes = rw f at (c .writes) }
+
+      module _ (e : i ≡ skip → ⊥) where
+        kept-more : kept i ≡ part s from (recordLen h) ++ kept (i + 1)
+        unfolding flat
+        kept-more = kept-cons false (ne-eqb i skip e)
+
+        -- by its length
+        more-length : length (kept i) ≡ recordLen h + length (kept (i + 1))
+        more-length = omega (arith, ap length kept-more, length-append (part s from (recordLen h)) (kept (i + 1)), part-length s from (recordLen h) putting-from)
+
+        -- it has room
+        pub putting-fits : end + recordLen h ≤ at + length (flat (tlcs h s))
+        putting-fits = omega (arith, putting-room, more-length)
+
+        -- another is written, and what is left goes behind it
+        pub putting-kept : (out′ : List ℕ) → out′ ≡ sets out end (part s from (recordLen h)) → Putting out₀ at out′ (from + (98 + h)) (end + recordLen h) (i + 1)
+        putting-kept out′ d = record {
+          low = omega arith;
+          place = next-place;
+          same = ap length d ∙ length-sets out end (part s from (recordLen h)) ∙ c .same;
+          ends = omega (arith, c .ends, more-length);
+          writes =
+              ap (λ (l : List ℕ). sets l (end + recordLen h) (kept (i + 1))) d
+              ∙ ap (λ (k : ℕ). sets (sets out end (part s from (recordLen h))) (end + k) (kept (i + 1))) (sym (part-length s from (recordLen h) putting-from))
+              ∙ sym (sets-append (part s from (recordLen h)) (kept (i + 1)) out end)
+              ∙ ap (sets out end) (sym kept-more)
+              ∙ c .writes;
+        }
+
+-- ---- a state
+
+module _ (rs : List (List ℕ)) (remote local : List ℕ) (e : length remote ≡ 36) (f : length local ≡ 36) where
+  -- the four writes of a state are one
+  pub state-puts : (k at end : ℕ) (out o₁ o₂ o₃ : List ℕ) → k ≡ length rs → end ≡ at + 1 + length (flat rs)
+      → o₁ ≡ sets (set out at k) (at + 1) (flat rs)
+      → o₂ ≡ sets o₁ end remote
+      → o₃ ≡ sets o₂ (end + 36) local
+      → o₃ ≡ sets out at (stateBytes rs remote local)
+  unfolding stateBytes
+  state-puts k at end out o₁ o₂ o₃ ek ee e₁ e₂ e₃ =
+      let F : List ℕ = k ∷ flat rs in
+      let p : o₁ ≡ sets out at F = e₁ ∙ ap (λ (j : ℕ). sets (set out at k) j (flat rs)) (add-one at) in
+      let a : end ≡ at + length F = omega arith in
+      let b : end + 36 ≡ at + length (F ++ remote) = omega (arith, length-append F remote) in
+      sets-next out (F ++ remote) local at (end + 36) (sets-next out F remote at end p e₂ a) e₃ b
+      ∙ ap (sets out at) (append-assoc F remote local)
+      ∙ ap (λ (j : ℕ). sets out at (j ∷ (flat rs ++ (remote ++ local)))) ek
+
+-- ---- the numbers of a plan
+
+module _ (h : ℕ) (s : List ℕ) (place : ℕ) (way : Way) (c : Choice) (b : Below (length (entries (trackedLen h) s)) c) (e : c ≡ choice·.Tlc place way) where
+  -- the choice's TLC is among the tracked ones
+  pub below-place : place < length s / (98 + h)
+  unfolding Below
+  below-place =
+      let g : place < length (entries (trackedLen h) s) = subst (Below (length (entries (trackedLen h) s))) e b in
+      omega (arith, tracked-length (entries (trackedLen h) s), tlcs-length h s)
+
+  -- and its entry is whole
+  pub below-room : place * (98 + h) + (98 + h) ≤ length s
+  below-room = entry-room (98 + h) s place below-place
+
+module _ (h : ℕ) (s : List ℕ) (i : ℕ) (g : i < length s / (98 + h)) where
+  -- its record begins with the type, and then the amount
+  pub place-amount : amountAt s (i * (98 + h) + 34) ≡ amountAt (getD (tlcs h s) i []) 1
+  place-amount =
+      let a : i * (98 + h) + 33 + 1 ≡ i * (98 + h) + 34 = omega arith in
+      rw (tlc-at h s i g, amount-part s (i * (98 + h) + 33) (recordLen h) 1 (omega arith), a)
+
+-- with a flag the first of two holds
+pub flagged : {A : Type 0} {b : Bool} → A ⊎ (b ≡ false) → b ≡ true → A
+flagged (inl a) e = a
+flagged (inr f) e = let z : _≡_ {A = ℕ} 0 1 = cc in absurd (omega arith)
+
+-- ---- the state after the unlock
+
+-- all are counted, or all but the one that is left out
+pub keep-count : (k n c : ℕ) (rs : List (List ℕ)) → n ≡ length rs → ((k < n) × (c ≡ n - 1)) ⊎ ((n ≤ k) × (c ≡ n)) → (c ≡ length (keep (k ∷ []) 0 rs)) × (c ≤ n)
+keep-count k n c rs e (inl x) = (omega (arith, x .0, x .1, keep-but k 0 rs (omega arith) (omega (arith, x .0))), omega (arith, x .1))
+keep-count k n c rs e (inr x) = (omega (arith, x .1, ap length (keep-past k 0 rs (inr (omega (arith, x .0))))), omega (arith, x .1))
+
+module _ (rs : List (List ℕ)) (remote local : List ℕ) (p : Plan) where
+  -- it is no longer than the state before it
+  pub after-size : length remote ≡ 36 → length local ≡ 36 → (length (planAfter rs remote local p) ≤ 73 + length (flat rs)) × (73 ≤ length (planAfter rs remote local p))
+  unfolding planAfter
+  after-size e f =
+      let z = state-size (keep (p .skip ∷ []) 0 rs) (shareLeft (p .remote) remote) (shareLeft (p .local) local) (left-length (p .remote) remote e) (left-length (p .local) local f) in
+      (omega (arith, z, keep-small (p .skip ∷ []) 0 rs), omega (arith, z))
+
+  -- the remote share is taken, and not the local one
+  pub after-remote : (p .remote ≡ false) ⊎ (p .local ≡ false) → p .remote ≡ true
+      → stateBytes (keep (p .skip ∷ []) 0 rs) (replicate 36 0) local ≡ planAfter rs remote local p
+  unfolding planAfter shareLeft
+  after-remote g e = rw (e, other g)
+    where
+      other : (p .remote ≡ false) ⊎ (p .local ≡ false) → p .local ≡ false
+      other (inl f) = let z : _≡_ {A = ℕ} 0 1 = cc in absurd (omega arith)
+      other (inr f) = f
+
+  module _ (e : p .remote ≡ false) where
+    -- the local one is
+    pub after-local : p .local ≡ true → stateBytes (keep (p .skip ∷ []) 0 rs) remote (replicate 36 0) ≡ planAfter rs remote local p
+    unfolding planAfter shareLeft
+    after-local f = rw (e, f)
+
+    -- none is
+    pub after-none : p .local ≡ false → stateBytes (keep (p .skip ∷ []) 0 rs) remote local ≡ planAfter rs remote local p
+    unfolding planAfter shareLeft
+    after-none f = rw (e, f)
+
+-- S was written to out from place at on: where it ends, and what is left of the output
+abbrev pub Landed : List ℕ → List ℕ → ℕ → ℕ → List ℕ → Type 0
+Landed S out at e o = (e ≡ at + length S) × (o ≡ sets out at S)
+
+-- one that is equal to what was written
+pub landed : (T S out : List ℕ) (at : ℕ) {e r : ℕ} {o o′ : List ℕ} → T ≡ S → e ≡ r → o ≡ o′ → Landed T out at r o′ → Landed S out at e o
+landed T S out at t a c w = (a ∙ w .0 ∙ ap (λ (l : List ℕ). at + length l) t, c ∙ w .1 ∙ ap (sets out at) t)
+
+-- it is read back from where it stands
+pub read-back : (out S : List ℕ) (at e : ℕ) (o : List ℕ) → e ≡ at + length S → o ≡ sets out at S → at + length S ≤ length out → take (e - at) (drop at o) ≡ S
+read-back out S at e o a b r =
+    let n : e - at ≡ length S = omega arith in
+    ap (λ (l : List ℕ). take (e - at) (drop at l)) b ∙ sets-back out S at (e - at) n r
+
+-- ---- the unlock
+
+module _ (preimages : List ℕ) (p : Plan) (out out′ x : List ℕ) (r : 99 ≤ length out)
+    (w : out′ ≡ wroteUnlock (record { byte = p .byte; flag = p .flag }) (replicate 65 0) x out .bytes) where
+  -- without a preimage
+  pub unlock-plain : p .flag ≡ false → x ≡ [] → out′ ≡ sets out 0 (planUnlock (entries pairLen preimages) p)
+  unfolding planUnlock
+  unlock-plain e d =
+      let n : 67 ≡ witnessLen (p .flag) = rw e in
+      let l : length x ≡ 67 - 67 = rw d in
+      w
+      ∙ sym (unlock-written (record { byte = p .byte; flag = p .flag }) (replicate 65 0) x out 67 n refl l (omega arith) _ refl .1)
+      ∙ ap (λ (y : List ℕ). sets out 0 (unlockBytes (record { byte = p .byte; flag = p .flag }) (replicate 65 0) y)) (rw (e, d))
+
+  -- with the second half of its pair
+  pub unlock-paired : p .flag ≡ true → 64 * (p .pair) + 64 ≤ length preimages → x ≡ part preimages (64 * (p .pair) + 32) 32
+      → out′ ≡ sets out 0 (planUnlock (entries pairLen preimages) p)
+  unfolding planUnlock
+  unlock-paired e g d =
+      let n : 99 ≡ witnessLen (p .flag) = rw e in
+      let l : length x ≡ 99 - 67 = ap length d ∙ part-length preimages (64 * (p .pair) + 32) 32 (omega arith) in
+      let f : p .pair < length preimages / 64 = omega arith in
+      let k : 64 * (p .pair) + 32 ≡ p .pair * 64 + 32 = omega arith in
+      let y : x ≡ part (getD (entries pairLen preimages) (p .pair) []) 32 32 =
+      d
+      ∙ ap (λ (j : ℕ). part preimages j 32) k
+      ∙ sym (part-part preimages (p .pair * 64) 64 32 32 (omega arith))
+      ∙ ap (λ (t : List ℕ). part t 32 32) (sym (entry-at 64 preimages (p .pair) f)) in
+      w
+      ∙ sym (unlock-written (record { byte = p .byte; flag = p .flag }) (replicate 65 0) x out 99 n refl l r _ refl .1)
+      ∙ ap (λ (z : List ℕ). sets out 0 (unlockBytes (record { byte = p .byte; flag = p .flag }) (replicate 65 0) z)) (rw e y)
+
+-- ---- the new args
+
+-- the four writes of the new args are one
+pub args-puts : (args hash : List ℕ) (at : ℕ) (o o₁ o₂ o₃ A B C : List ℕ) → 36 ≤ length args → length hash ≡ 32
+    → A ≡ take 36 args → B ≡ take 20 hash → C ≡ part args 57 (length args)
+    → o₁ ≡ sets o at A
+    → o₂ ≡ sets o₁ (at + 36) B
+    → o₃ ≡ sets (set o₂ (at + 56) 1) (at + 57) C
+    → o₃ ≡ sets o at (take 36 args ++ take 20 hash ++ (1 ∷ []) ++ drop 57 args)
+args-puts args hash at o o₁ o₂ o₃ A B C h g eA eB eC e₁ e₂ e₃ =
+    let O : List ℕ = 1 ∷ [] in
+    let a : length A ≡ 36 = omega (arith, ap length eA, length-take 36 args) in
+    let b : length B ≡ 20 = omega (arith, ap length eB, length-take 20 hash) in
+    let n₁ : at + 36 ≡ at + length A = omega arith in
+    let n₂ : at + 56 ≡ at + length (A ++ B) = omega (arith, length-append A B) in
+    let n₃ : at + 57 ≡ at + length (A ++ B ++ O) = omega (arith, length-append A B, length-append (A ++ B) O) in
+    let p₂ = sets-next o A B at (at + 36) e₁ e₂ n₁ in
+    let p₃ : set o₂ (at + 56) 1 ≡ sets o at (A ++ B ++ O) = sets-next o (A ++ B) O at (at + 56) p₂ refl n₂ in
+    let l : length (drop 57 args) ≤ length args = omega (arith, length-drop 57 args) in
+    sets-next o (A ++ B ++ O) C at (at + 57) p₃ e₃ n₃
+    ∙ ap (λ (r : List ℕ). sets o at (A ++ B ++ O ++ r)) (eC ∙ take-all (length args) (drop 57 args) l)
+    ∙ ap (λ (r : List ℕ). sets o at (r ++ B ++ O ++ drop 57 args)) eA
+    ∙ ap (λ (r : List ℕ). sets o at (take 36 args ++ r ++ O ++ drop 57 args)) eB
+
+-- ---- hashes
+
+-- what is equal to a CKB hash has 32 bytes
+pub hash-length : (s r : List ℕ) → r ≡ ckbHash s → length r ≡ 32
+hash-length s r e = ap length e ∙ ckb-length s
+
+-- an unlock has at most 99
+pub unlock-most : (b : Bool) → witnessLen b ≤ 99
+unlock-most true = omega arith
+unlock-most false = omega arith
+
+-- the place behind the unlock
+pub unlock-place : (b : Bool) (at : ℕ) → ((b ≡ true) × (at ≡ 99)) ⊎ ((b ≡ false) × (at ≡ 67)) → at ≡ witnessLen b
+unlock-place b at (inl x) = rw (x .0) (x .1)
+unlock-place b at (inr x) = rw (x .0) (x .1)
+
+-- ---- the three parts, joined
+
+module _ (h : ℕ) (args s preimages remote local : List ℕ) (p : Plan)
+    (a : 36 ≤ length args) (d : length remote ≡ 36) (f : length local ≡ 36)
+    (g : (64 * (p .pair) + 64 ≤ length preimages) ⊎ (p .flag ≡ false)) where
+  abbrev unlocks : List ℕ
+  unlocks = planUnlock (entries pairLen preimages) p
+
+  abbrev before : List ℕ
+  before = stateBytes (tlcs h s) remote local
+
+  abbrev after : List ℕ
+  after = planAfter (tlcs h s) remote local p
+
+  -- the unlock
+  pub unlock-size : length unlocks ≡ witnessLen (p .flag)
+  unfolding planUnlock
+  unlock-size = go (p .flag) refl
+    where
+      go : (b : Bool) → p .flag ≡ b
+          → length (unlockBytes (record { byte = p .byte; flag = b }) (replicate 65 0) (cond b (part (getD (entries pairLen preimages) (p .pair) []) 32 32) [])) ≡ witnessLen b
+      go true e =
+          let q = flagged g e in
+          let k : p .pair < length preimages / 64 = omega arith in
+          let l = part-length (part preimages (p .pair * 64) 64) 32 32 (omega (arith, part-length preimages (p .pair * 64) 64 (omega arith))) in
+          unlockBytes-length (record { byte = p .byte; flag = true }) (replicate 65 0) (part (getD (entries pairLen preimages) (p .pair) []) 32 32)
+          ∙ omega (arith, l, ap (λ (t : List ℕ). length (part t 32 32)) (entry-at 64 preimages (p .pair) k))
+      go false e = unlockBytes-length (record { byte = p .byte; flag = false }) (replicate 65 0) []
+
+  -- the new args
+  pub new-size : (o : List ℕ) → length (newArgs args o) ≡ 57 + (length args - 57)
+  unfolding newArgs
+  new-size o =
+      let A : List ℕ = take 36 args in
+      let H : List ℕ = take 20 (ckbHash o) in
+      omega (
+        arith,
+        length-append (A ++ H ++ (1 ∷ [])) (drop 57 args),
+        length-append (A ++ H) (1 ∷ []),
+        length-append A H,
+        length-take 36 args,
+        length-take 20 (ckbHash o),
+        ckb-length o,
+        length-drop 57 args,
+      )
+
+  -- and all
+  pub joined-size : length (joined args (entries (trackedLen h) s) (entries pairLen preimages) remote local p)
+      ≡ witnessLen (p .flag) + (73 + length (flat (tlcs h s))) + (57 + (length args - 57))
+  unfolding joined
+  joined-size =
+      omega (
+        arith,
+        length-append (unlocks ++ before) (newArgs args after),
+        length-append unlocks before,
+        unlock-size,
+        state-size (tlcs h s) remote local d f,
+        new-size after,
+      )
+
+  module _ (out : List ℕ) (r : length (joined args (entries (trackedLen h) s) (entries pairLen preimages) remote local p) ≤ length out)
+      (at : ℕ) (w : at ≡ witnessLen (p .flag)) where
+    -- there is room for the unlock, also with a preimage
+    pub unlock-room : 99 ≤ length out
+    unlock-room = omega (arith, r, joined-size, at-least (p .flag))
+
+    module _ (o₁ : List ℕ) (e₁ : o₁ ≡ sets out 0 unlocks) where
+      -- for the state behind it
+      pub after-room : at + 73 + length (flat (tlcs h s)) ≤ length o₁
+      after-room = omega (arith, r, joined-size, ap length e₁, length-sets out 0 unlocks)
+
+      module _ (o₂ : List ℕ) (e₂ : o₂ ≡ sets o₁ at after) where
+        -- for the other one at its place
+        pub before-room : at + 73 + length (flat (tlcs h s)) ≤ length o₂
+        before-room = omega (arith, after-room, ap length e₂, length-sets o₁ at after)
+
+        module _ (o₃ : List ℕ) (end : ℕ) (z : end ≡ at + length (stateBytes (keep (length s / (98 + h) ∷ []) 0 (tlcs h s)) remote local))
+            (e₃ : o₃ ≡ sets o₂ at (stateBytes (keep (length s / (98 + h) ∷ []) 0 (tlcs h s)) remote local)) where
+          -- where none is left out
+          all-kept : stateBytes (keep (length s / (98 + h) ∷ []) 0 (tlcs h s)) remote local ≡ before
+          all-kept = ap (λ (rs : List (List ℕ)). stateBytes rs remote local) (keep-past (length s / (98 + h)) 0 (tlcs h s) (inr (omega (arith, tlcs-length h s))))
+
+          -- and for the new args
+          pub new-room : (end + 57 ≤ length o₃) × (end + length args ≤ length o₃)
+          new-room =
+              let q = ap length (e₃ ∙ ap (sets o₂ at) all-kept) in
+              let t = state-size (tlcs h s) remote local d f in
+              let y = ap length all-kept in (
+                omega (arith, r, joined-size, q, length-sets o₂ at before, ap length e₂, length-sets o₁ at after, ap length e₁, length-sets out 0 unlocks, z, t, y),
+                omega (arith, r, joined-size, q, length-sets o₂ at before, ap length e₂, length-sets o₁ at after, ap length e₁, length-sets out 0 unlocks, z, t, y),
+              )
+
+          -- the four writes are one
+          pub joined-puts : (o₄ hash : List ℕ) → hash ≡ ckbHash after → o₄ ≡ sets o₃ end (take 36 args ++ take 20 hash ++ (1 ∷ []) ++ drop 57 args)
+              → o₄ ≡ sets out 0 (joined args (entries (trackedLen h) s) (entries pairLen preimages) remote local p)
+          unfolding joined newArgs
+          joined-puts o₄ hash y e₄ =
+              let k : at ≡ 0 + length unlocks = omega (arith, unlock-size) in
+              let t = state-size (tlcs h s) remote local d f in
+              let u : o₃ ≡ sets o₁ at before =
+              e₃
+              ∙ ap (sets o₂ at) all-kept
+              ∙ ap (λ (l : List ℕ). sets l at before) e₂
+              ∙ sets-over o₁ after before at (omega (arith, after-room, t)) (omega (arith, t, after-size (tlcs h s) remote local p d f)) in
+              let m : end ≡ 0 + length (unlocks ++ before) = omega (arith, z, ap length all-kept, length-append unlocks before, unlock-size) in
+              sets-next out (unlocks ++ before) _ 0 end (sets-next out unlocks before 0 at e₁ u k) e₄ m
+              ∙ ap (λ (x : List ℕ). sets out 0 (unlocks ++ before ++ (take 36 args ++ take 20 x ++ (1 ∷ []) ++ drop 57 args))) y
+
+-- ---- a choice as a plan
+
+module _ (h : ℕ) (s : List ℕ) (f : length (entries (trackedLen h) s) ≤ 254) where
+  -- as many as the code counts
+  pub few-tracked : length s / (98 + h) ≤ 254
+  few-tracked = omega (arith, tracked-length (entries (trackedLen h) s), tlcs-length h s)
+
+  -- their records have fewer than 2 ^ 15 bytes
+  pub state-small : h ≤ 32 → length s / (98 + h) * recordLen h ≤ 24638
+  state-small g = omega (arith, mul-le-mul-right (recordLen h) few-tracked)
+
+-- of a choice among n TLCs and m pairs, its TLC is among n
+pub within-tlcs : (n m : ℕ) (c : Choice) → Within n m c → Below n c
+unfolding Within
+within-tlcs n m c w = w .0
+
+-- its pair is among m
+pub within-pairs : (n m : ℕ) (c : Choice) → Within n m c → PairBelow m c
+unfolding Within
+within-pairs n m c w = w .1
+
+-- the length of the new args
+pub new-length : (n k : ℕ) → ((k < 57) × (n ≡ 57)) ⊎ ((57 ≤ k) × (n ≡ k)) → n ≡ 57 + (k - 57)
+new-length n k (inl x) = omega (arith, x .0, x .1)
+new-length n k (inr x) = omega (arith, x .0, x .1)
+
+-- its byte is a byte
+pub plan-byte : (n : ℕ) (c : Choice) → n ≤ 254 → Below n c → planOf n c .byte ≤ 255
+unfolding planOf Below
+plan-byte n (choice·.Share side·.Remote) f b = omega arith
+plan-byte n (choice·.Share side·.Local) f b = omega arith
+plan-byte n (choice·.Tlc place way·.Timeout) f b = omega arith
+plan-byte n (choice·.Tlc place (way·.Preimage pair)) f b = omega arith
+
+-- its pair is whole, where it counts
+pub plan-pair : (n : ℕ) (preimages : List ℕ) (c : Choice) → PairBelow (length (entries pairLen preimages)) c
+    → (64 * (planOf n c .pair) + 64 ≤ length preimages) ⊎ (planOf n c .flag ≡ false)
+unfolding planOf PairBelow Paired
+plan-pair n preimages (choice·.Share side·.Remote) b = inr refl
+plan-pair n preimages (choice·.Share side·.Local) b = inr refl
+plan-pair n preimages (choice·.Tlc place way·.Timeout) b = inr refl
+plan-pair n preimages (choice·.Tlc place (way·.Preimage pair)) b = inl (omega (arith, entry-room 64 preimages pair (omega (arith, entries-length 64 preimages))))
+
+-- it takes one share at most
+pub plan-sides : (n : ℕ) (c : Choice) → (planOf n c .remote ≡ false) ⊎ (planOf n c .local ≡ false)
+unfolding planOf
+plan-sides n (choice·.Share side·.Remote) = inr refl
+plan-sides n (choice·.Share side·.Local) = inl refl
+plan-sides n (choice·.Tlc place way·.Timeout) = inr refl
+plan-sides n (choice·.Tlc place (way·.Preimage pair)) = inr refl
+
+-- its unlock is the choice's
+plan-unlock : (n : ℕ) (ps : List (List ℕ)) (c : Choice) → unlockOf ps c ≡ planUnlock ps (planOf n c)
+unfolding planOf planUnlock unlockOf sideByte wayBytes
+plan-unlock n ps (choice·.Share side·.Remote) = refl
+plan-unlock n ps (choice·.Share side·.Local) = refl
+plan-unlock n ps (choice·.Tlc place way·.Timeout) = refl
+plan-unlock n ps (choice·.Tlc place (way·.Preimage pair)) = refl
+
+-- nothing is settled
+keep-all : (i : ℕ) (rs : List (List ℕ)) → keep [] i rs ≡ rs
+unfolding keep member
+keep-all i [] = refl
+keep-all i (r ∷ rs) = ap (λ (l : List (List ℕ)). r ∷ l) (keep-all (i + 1) rs)
+
+-- so is the state after it
+plan-after : (n : ℕ) (rs : List (List ℕ)) (remote local : List ℕ) (c : Choice) → n ≡ length rs → stateAfter rs remote local (takes c) ≡ planAfter rs remote local (planOf n c)
+unfolding planOf planAfter stateAfter takes sideTaken
+plan-after n rs remote local (choice·.Share side·.Remote) e =
+    ap (λ (l : List (List ℕ)). stateBytes l (shareLeft true remote) (shareLeft false local)) (keep-all 0 rs ∙ sym (keep-past n 0 rs (inr (omega arith))))
+plan-after n rs remote local (choice·.Share side·.Local) e =
+    ap (λ (l : List (List ℕ)). stateBytes l (shareLeft false remote) (shareLeft true local)) (keep-all 0 rs ∙ sym (keep-past n 0 rs (inr (omega arith))))
+plan-after n rs remote local (choice·.Tlc place way·.Timeout) e = refl
+plan-after n rs remote local (choice·.Tlc place (way·.Preimage pair)) e = refl
+
+-- ---- what is handed out
+
+module _ (h : ℕ) (args s preimages out : List ℕ) (q : Picked) (p : Plan) (e : p ≡ planOf (length s / (98 + h)) (q .choice))
+    (a : 36 ≤ length args) (d : length (q .remote) ≡ 36) (f : length (q .local) ≡ 36)
+    (b : PairBelow (length (entries pairLen preimages)) (q .choice)) where
+  abbrev es : List (List ℕ)
+  es = entries (trackedLen h) s
+
+  abbrev ps : List (List ℕ)
+  ps = entries pairLen preimages
+
+  -- what `put_joined` wants of the plan
+  pub planned : length es ≤ 254 → Below (length es) (q .choice)
+      → (p .byte ≤ 255) × (((64 * (p .pair) + 64 ≤ length preimages) ⊎ (p .flag ≡ false)) × ((p .remote ≡ false) ⊎ (p .local ≡ false)))
+  planned g w =
+      let n : length es ≡ length s / (98 + h) = omega (arith, tracked-length es, tlcs-length h s) in
+      rw e
+      (plan-byte (length s / (98 + h)) (q .choice) (few-tracked h s g) (rw n at w), (plan-pair (length s / (98 + h)) preimages (q .choice) b, plan-sides (length s / (98 + h)) (q .choice)))
+
+  -- its pair is whole
+  pub planned-pair : (64 * (p .pair) + 64 ≤ length preimages) ⊎ (p .flag ≡ false)
+  planned-pair = rw e (plan-pair (length s / (98 + h)) preimages (q .choice) b)
+
+  unlock-same : unlockOf ps (q .choice) ≡ planUnlock ps p
+  unlock-same = rw e (plan-unlock (length s / (98 + h)) ps (q .choice))
+
+  after-same : stateAfter (tlcs h s) (q .remote) (q .local) (takes (q .choice)) ≡ planAfter (tlcs h s) (q .remote) (q .local) p
+  after-same = rw e (plan-after (length s / (98 + h)) (tlcs h s) (q .remote) (q .local) (q .choice) (sym (tlcs-length h s)))
+
+  -- the three parts are those of the plan
+  whole : unlockOf ps (q .choice) ++ stateBytes (tlcs h s) (q .remote) (q .local) ++ newArgs args (stateAfter (tlcs h s) (q .remote) (q .local) (takes (q .choice)))
+      ≡ joined args es ps (q .remote) (q .local) p
+  unfolding joined
+  whole = rw (unlock-same, after-same)
+
+  module _ (u k : ℕ) (eu : u ≡ witnessLen (p .flag)) (ek : k ≡ 57 + (length args - 57)) where
+    -- their length, as the code has it
+    pub handed-size : length (joined args es ps (q .remote) (q .local) p) ≡ u + (73 + length s / (98 + h) * recordLen h) + k
+    handed-size = omega (arith, joined-size h args s preimages (q .remote) (q .local) p a d f planned-pair, tlcs-flat h s)
+
+    -- 13
+    pub handed-short : length out < u + (73 + length s / (98 + h) * recordLen h) + k
+        → (answer·.Refused 13 (u + (73 + length s / (98 + h) * recordLen h) + k) ≡ handedOut h args es ps q out .answer) × (out ≡ handedOut h args es ps q out .bytes)
+    unfolding handedOut
+    handed-short g =
+        let t = lt-leb (u + (73 + length s / (98 + h) * recordLen h) + k) (length out) g in
+        (rw (whole, handed-size, t), rw (whole, handed-size, t))
+
+    -- all is written
+    pub handed-whole : u + (73 + length s / (98 + h) * recordLen h) + k ≤ length out
+        → (m : Amount) (l : ℕ) (out′ : List ℕ) → m ≡ amountOf (tlcs h s) (q .remote) (q .local) (q .choice) → l ≡ recordSize h (q .choice)
+        → out′ ≡ sets out 0 (joined args es ps (q .remote) (q .local) p)
+        → (answer·.Chosen (record {
+          choice = q .choice;
+          amount = m;
+          key = q .key;
+          delay = q .delay;
+          unlock = u;
+          state = 73 + length s / (98 + h) * recordLen h;
+          args = k;
+          place = q .place;
+          len = l;
+        })
+        ≡ handedOut h args es ps q out .answer)
+        × (out′ ≡ handedOut h args es ps q out .bytes)
+    unfolding handedOut
+    handed-whole g m l out′ em el eo =
+        let t = le-leb (u + (73 + length s / (98 + h) * recordLen h) + k) (length out) g in
+        let n₁ : length (unlockOf ps (q .choice)) ≡ u = ap length unlock-same ∙ unlock-size h args s preimages (q .remote) (q .local) p a d f planned-pair ∙ sym eu in
+        let n₂ : length (stateBytes (tlcs h s) (q .remote) (q .local)) ≡ 73 + length s / (98 + h) * recordLen h =
+        state-size (tlcs h s) (q .remote) (q .local) d f ∙ ap (λ (j : ℕ). 73 + j) (tlcs-flat h s) in
+        let n₃ : length (newArgs args (stateAfter (tlcs h s) (q .remote) (q .local) (takes (q .choice)))) ≡ k =
+        new-size h args s preimages (q .remote) (q .local) p a d f planned-pair (stateAfter (tlcs h s) (q .remote) (q .local) (takes (q .choice))) ∙ sym ek in
+        (rw (whole, handed-size, t, n₁, n₂, n₃, em, el), rw (whole, handed-size, t) eo)

@@ -1,0 +1,100 @@
+// First records: the state that a commitment starts with, written from what the host lends.
+use crate::built::put_first;
+use crate::built::put_first_tlcs;
+use crate::built::share_of;
+use crate::lent::data_well;
+use crate::lent::settlement_well;
+use fiber_bytes::put;
+use fiber_types::answer::Written;
+use fiber_types::tlc::Amount;
+use fiber_types::tlc::known;
+ghost use mathlib.Core.Path.{_≡_};
+ghost use Rattle.fiber_choice.specs.First as S;
+
+// Writes the record of one settlement TLC to the front of out, which may be a part of a longer output.
+pub fn settlement_tlc_witness(h: usize, for_remote: bool, tlc: &[u8], out: &mut [u8]) -> Written
+    ensures { λ r. ⌜ r ≡ S.wroteFirstTlc h «for_remote» (now (tlc .entry)) (now (out .entry)) .answer ⌝ }
+    ensures { λ _. ⌜ now (out .exit) ≡ S.wroteFirstTlc h «for_remote» (now (tlc .entry)) (now (out .entry)) .bytes ⌝ }
+{
+    if !known(h) {
+        return Written::Refused {
+            number: 14,
+            place: 0,
+        };
+    }
+    if tlc.len() != 124 {
+        return Written::Refused {
+            number: 14,
+            place: 0,
+        };
+    }
+    if !settlement_well(tlc) {
+        return Written::Refused {
+            number: 14,
+            place: 0,
+        };
+    }
+    let size = 65 + h;
+    if out.len() < size {
+        return Written::Refused {
+            number: 13,
+            place: size,
+        };
+    }
+    put_first(h, for_remote, tlc, out);
+    Written::Bytes(size)
+}
+
+// Writes the first state: n, records, remote share, local share; without for_remote the sides are swapped.
+pub fn settlement_data_witness(
+    h: usize,
+    for_remote: bool,
+    tlcs: &[u8],
+    local_amount: Amount,
+    remote_amount: Amount,
+    local_key: &[u8],
+    remote_key: &[u8],
+    out: &mut [u8],
+) -> Written
+    ensures { λ r. ⌜ r ≡ S.wroteFirst h «for_remote» (record { tlcs = now (tlcs .entry); localAmount = «local_amount»; remoteAmount = «remote_amount»; localKey = now («local_key» .entry); remoteKey = now («remote_key» .entry) }) (now (out .entry)) .answer ⌝ }
+    ensures { λ _. ⌜ now (out .exit) ≡ S.wroteFirst h «for_remote» (record { tlcs = now (tlcs .entry); localAmount = «local_amount»; remoteAmount = «remote_amount»; localKey = now («local_key» .entry); remoteKey = now («remote_key» .entry) }) (now (out .entry)) .bytes ⌝ }
+{
+    if !known(h) {
+        return Written::Refused {
+            number: 14,
+            place: 0,
+        };
+    }
+    if !data_well(tlcs, local_key, remote_key) {
+        return Written::Refused {
+            number: 14,
+            place: 0,
+        };
+    }
+    let n = tlcs.len() / 124;
+    if 255 < n {
+        return Written::Refused {
+            number: 12,
+            place: 0,
+        };
+    }
+    let size = 73 + n * (65 + h);
+    if out.len() < size {
+        return Written::Refused {
+            number: 13,
+            place: size,
+        };
+    }
+    let local = share_of(local_key, local_amount);
+    let remote = share_of(remote_key, remote_amount);
+    out[0] = n as u8;
+    put_first_tlcs(h, for_remote, tlcs, out);
+    if for_remote {
+        put(out, size - 72, &remote);
+        put(out, size - 36, &local);
+    } else {
+        put(out, size - 72, &local);
+        put(out, size - 36, &remote);
+    }
+    Written::Bytes(size)
+}

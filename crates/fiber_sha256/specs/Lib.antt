@@ -1,0 +1,2 @@
+-- What SHA-256 means.
+pub mod Sha256

@@ -1,0 +1,2 @@
+// SHA-256 (FIPS 180-4). For `fiber_types`, which hands it on as its own, and for inner crates' definitions. Uses fiber_bytes alone.
+pub mod sha256;

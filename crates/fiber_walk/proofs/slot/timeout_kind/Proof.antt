@@ -1,0 +1,16 @@
+-- Both tests of the definition.
+use Rattle.fiber_choice.specs.Choice.{timeoutKind}
+use Rattle.fiber_choice.proofs.LaterLaws.{not-cond}
+use Rattle.fiber_walk.proofs.slot.timeout_kind.Statement.{statement}
+use Rattle.fiber_walk.proofs.slot.timeout_kind.Tie as tie
+
+returns : tie.Need-returns
+unfolding timeoutKind
+returns c = rw (c .if1 .taken)
+
+returns-2 : tie.Need-returns-2
+unfolding timeoutKind
+returns-2 c = rw (c .if1 .left) (not-cond (c .before .args .offered))
+
+pub timeout-kind-spec : {M : Type 1} → statement M
+timeout-kind-spec = tie.close (tie.spec returns returns-2)

@@ -1,0 +1,63 @@
+// Stored preimages: a flat slice of pairs of 64 bytes, hash and preimage.
+use fiber_bytes::part_of;
+use fiber_choice::kinds::Found;
+use fiber_first::lent::same;
+use fiber_types::blake2b::ckb_hash;
+use fiber_types::sha256::sha256;
+ghost use mathlib.Core.Path.{_≡_};
+ghost use Prim.Native.Nat.{ℕ, _+_, _*_, _≤_};
+ghost use lib.ListN.{length, getD};
+ghost use mathlib.Core.List.{[]};
+ghost use Rattle.fiber_choice.specs.Lent.{entries, pairLen};
+ghost use Rattle.fiber_choice.specs.Choice as S;
+
+// The hash of a preimage under an algorithm: 1 is SHA-256, else CKB's hash.
+fn digest(algorithm: u8, s: &[u8]) -> [u8; 32]
+    ensures { λ r. ⌜ r ≡ S.digest algorithm (now (s .entry)) ⌝ }
+{
+    if algorithm == 1 {
+        return sha256(s);
+    }
+    ckb_hash(s)
+}
+
+// The first pair with a hash; no other pair with it is looked at.
+pub fn find_pair(preimages: &[u8], hash: &[u8]) -> Found
+    ensures { λ r. ⌜ r ≡ S.findPair 0 (entries pairLen (now (preimages .entry))) (now (hash .entry)) ⌝ }
+{
+    let n = preimages.len() / 64;
+    let mut at = 0;
+    for i in 0..n {
+        if same(&preimages[at..at + 32], hash) {
+            return Found::At(i);
+        }
+        at += 64;
+    }
+    Found::None
+}
+
+// Whether the preimage in the pair at a place has the tracked TLC's hash under its algorithm.
+pub fn counts(preimages: &[u8], pair: usize, tracked: &[u8]) -> bool
+    requires { ⌜ (64 * pair + 64 ≤ length (now preimages)) × (33 ≤ length (now tracked)) ⌝ }
+    ensures { λ r. ⌜ r ≡ S.countsAt (entries pairLen (now (preimages .entry))) (now (tracked .entry)) pair ⌝ }
+{
+    let found = digest(tracked[32], part_of(preimages, 64 * pair + 32, 32));
+    same(&found, part_of(tracked, 0, 32))
+}
+
+// The first pair with the tracked TLC's hash, if its preimage counts.
+pub fn counting_pair(preimages: &[u8], tracked: &[u8]) -> Found
+    requires { ⌜ 33 ≤ length (now tracked) ⌝ }
+    ensures { λ r. ⌜ r ≡ S.countingPair (entries pairLen (now (preimages .entry))) (now (tracked .entry)) ⌝ }
+{
+    match find_pair(preimages, part_of(tracked, 0, 32)) {
+        Found::At(pair) => {
+            if counts(preimages, pair, tracked) {
+                Found::At(pair)
+            } else {
+                Found::None
+            }
+        }
+        Found::None => Found::None,
+    }
+}

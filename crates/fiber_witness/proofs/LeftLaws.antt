@@ -1,0 +1,59 @@
+-- What an update that was taken leaves: as many bytes as it answers, and they are a whole state of the channel.
+-- Assumes nothing.
+use Prim.Native.Nat.{ℕ, _+_, _*_, _≤_}
+use native.Mathlib.Omega.{arith}
+use mathlib.Core.Path.{_≡_, refl, sym, ap, subst, _∙_}
+use mathlib.Core.List.{List}
+use lib.ListN.{length, getD, take, drop}
+use lib.Seq.{sets, sets-eq, take-at}
+use Rattle.fiber_types.specs.declared.answer.Written.{Written}
+use Rattle.fiber_types.specs.declared.answer.Written.the-variants as written·
+use Rattle.fiber_witness.specs.declared.witness.WitnessRead.{WitnessRead}
+use Rattle.fiber_witness.specs.declared.witness.WitnessRead.the-variants as read·
+use Rattle.fiber_witness.specs.declared.judge.Verdict.{Verdict}
+use Rattle.fiber_witness.specs.declared.judge.Verdict.the-variants as verdict·
+use Rattle.fiber_witness.specs.Witness.{recordLen, stateBytes, places, readWitness}
+use Rattle.fiber_witness.specs.Update.{Taken, none, judge, stateLeft, afterVerdict, afterJudged, afterRead, updated}
+use Rattle.fiber_witness.proofs.WitnessLaws.{Fine, FineRead, fine}
+use Rattle.fiber_witness.proofs.UpdateLaws.{standing-length, state-length}
+use Rattle.fiber_types.proofs.RecordsLaws.{outcome-by}
+
+-- what was stored at the front is what is read there
+pub take-sets : (out st : List ℕ) → length st ≤ length out → take (length st) (sets out 0 st) ≡ st
+take-sets out st f =
+    let g : 0 + length st ≤ length out = omega arith in
+    ap (take (length st)) (sets-eq st out 0 g) ∙ take-at st (drop (0 + length st) out) (length st) refl
+
+-- a state of so many bytes: its count, its records, and two shares
+pub record Whole (h : ℕ) (s : List ℕ) : Type 0 where
+  pub small : h ≤ 32
+  pub size : 73 + getD s 0 0 * recordLen h ≡ length s
+
+-- of an update that was turned down, nothing is said
+abbrev pub Left : ℕ → List ℕ → Written → Type 0
+Left h o (written·.Bytes len) = Whole h (take len o)
+Left h o (written·.Refused number place) = Unit {0}
+
+module _ (h : ℕ) (w out : List ℕ) (n share first : ℕ) (f : Fine h w n share first) where
+  -- the state left is whole
+  whole-state : (t : Taken) → Whole h (stateLeft h w n share t)
+  unfolding stateLeft stateBytes
+  whole-state t = record {
+    small = f .small;
+    size = omega (arith, state-length h w n share t (f .shares), standing-length h w n (t .settled) (omega (arith, f .tlcs, f .shares)));
+  }
+
+  left-verdict : (t : Taken) (v : Verdict) → Left h (afterVerdict h w out n share t v .bytes) (afterVerdict h w out n share t v .answer)
+  unfolding afterVerdict
+  left-verdict t verdict·.Fine =
+      outcome-by (Left h) (stateLeft h w n share t) out (λ g. subst (Whole h) (sym (take-sets out (stateLeft h w n share t) g)) (whole-state t)) tt
+  left-verdict t (verdict·.Refused number place) = tt
+
+-- What an update that was taken leaves is a whole state.
+pub left : (h : ℕ) (w out : List ℕ) → Left h (updated h w out .bytes) (updated h w out .answer)
+unfolding updated afterRead afterJudged
+left h w out = go (readWitness h w) (fine h w)
+  where
+    go : (r : WitnessRead) → FineRead h w r → Left h (afterRead h w out r .bytes) (afterRead h w out r .answer)
+    go (read·.Whole n k share first) f = left-verdict h w out n share first f (judge n w none (places w first) .taken) (judge n w none (places w first) .verdict)
+    go (read·.Refused number place) f = tt

@@ -1,0 +1,4 @@
+-- What reading a witness, its unlocks and an update mean.
+pub mod Witness
+pub mod Update
+pub mod Marks

@@ -1,2 +1,0 @@
--- The proofs of what a host may rely on about a choice.
-pub mod PromisesLaws

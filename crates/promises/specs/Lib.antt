@@ -1,2 +1,0 @@
--- What a host may rely on about a choice.
-pub mod Promises

@@ -1,1 +1,0 @@
-// No code: what a host may rely on about a choice (specs/Promises.antt), and its proof (proofs/).

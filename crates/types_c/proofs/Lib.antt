@@ -1,0 +1,2 @@
+-- Laws of the definitions that callers cite.
+pub mod AnswersLaws

@@ -1,0 +1,2 @@
+-- What an answer buffer holds.
+pub mod Answers
