@@ -10,13 +10,13 @@ use lib.Dec.{ltb, eqb}
 use lib.ListN.{length, take, drop}
 use borrow.Author.Tests.{le-leb, lt-leb, eq-eqb, ne-eqb, ltb-false}
 use Rattle.fiber_bytes.specs.Bytes.{part, le}
-use Rattle.fiber_types.specs.declared.epoch.Epoch.{Epoch}
-use Rattle.fiber_types.specs.declared.epoch.Scaled.{Scaled}
-use Rattle.fiber_types.specs.declared.epoch.Scaled.the-variants as scaled·
-use Rattle.fiber_types.specs.declared.since.Metric.{Metric}
-use Rattle.fiber_types.specs.declared.since.Metric.the-variants as metric·
-use Rattle.fiber_types.specs.Epoch.{withinBits}
-use Rattle.fiber_types.specs.Since.{since}
+use Rattle.fiber_since.specs.declared.epoch.Epoch.{Epoch}
+use Rattle.fiber_since.specs.declared.epoch.Scaled.{Scaled}
+use Rattle.fiber_since.specs.declared.epoch.Scaled.the-variants as scaled·
+use Rattle.fiber_since.specs.declared.since.Metric.{Metric}
+use Rattle.fiber_since.specs.declared.since.Metric.the-variants as metric·
+use Rattle.fiber_since.specs.Epoch.{withinBits}
+use Rattle.fiber_since.specs.Since.{since}
 use Rattle.fiber_types.specs.Records.{known}
 use Rattle.fiber_witness.specs.declared.witness.WitnessRead.the-variants as read·
 use Rattle.fiber_witness.specs.declared.judge.Verdict.{Verdict}
@@ -66,7 +66,7 @@ use Rattle.fiber_choice.specs.Choice.{
 use Rattle.fiber_witness.proofs.UpdateLaws.{Told, marks-marked, keep-marked}
 use Rattle.fiber_choice.proofs.LentLaws.{both-false, both-true, both-split, tracked-length}
 use Rattle.fiber_choice.proofs.HandedLaws.{tracked-size}
-use Rattle.fiber_types.proofs.EpochLaws.{epoch-within}
+use Rattle.fiber_since.proofs.EpochLaws.{epoch-within}
 
 -- one of two, as a test picks it
 pub by-flag : (b : Bool) (x y z : List ℕ) → ((b ≡ true) × (z ≡ x)) ⊎ ((b ≡ false) × (z ≡ y)) → z ≡ cond b x y

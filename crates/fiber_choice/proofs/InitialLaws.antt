@@ -11,11 +11,11 @@ use lib.Dec.{eqb, ltb, leb}
 use lib.ListN.{length, getD, take, drop}
 use borrow.Author.Tests.{le-leb, lt-leb, eq-eqb, eqb-false}
 use Rattle.fiber_bytes.specs.Bytes.{part}
-use Rattle.fiber_types.specs.declared.epoch.Epoch.{Epoch}
-use Rattle.fiber_types.specs.declared.epoch.Scaled.{Scaled}
-use Rattle.fiber_types.specs.declared.epoch.Scaled.the-variants as scaled·
-use Rattle.fiber_types.specs.Epoch.{Within, withinBits, scaled, due}
-use Rattle.fiber_types.proofs.EpochLaws.{within}
+use Rattle.fiber_since.specs.declared.epoch.Epoch.{Epoch}
+use Rattle.fiber_since.specs.declared.epoch.Scaled.{Scaled}
+use Rattle.fiber_since.specs.declared.epoch.Scaled.the-variants as scaled·
+use Rattle.fiber_since.specs.Epoch.{Within, withinBits, scaled, due}
+use Rattle.fiber_since.proofs.EpochLaws.{within}
 use Rattle.fiber_choice.specs.declared.kinds.Asked.{Asked}
 use Rattle.fiber_choice.specs.declared.kinds.Choice.{Choice}
 use Rattle.fiber_choice.specs.declared.kinds.Choice.the-variants as choice·

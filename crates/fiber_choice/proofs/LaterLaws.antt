@@ -13,12 +13,12 @@ use lib.Seq.{sets, drop-drop, take-take, take-all}
 use borrow.Author.Tests.{lt-ltb, le-ltb, eq-eqb, ne-eqb}
 use Rattle.fiber_bytes.specs.Bytes.{part, le}
 use Rattle.fiber_bytes.proofs.BytesLaws.{part-length, sets-fill, part-part, part-behind}
-use Rattle.fiber_types.specs.declared.epoch.Scaled.the-variants as scaled·
-use Rattle.fiber_types.specs.declared.since.Since.{Since}
-use Rattle.fiber_types.specs.declared.since.Metric.{Metric}
-use Rattle.fiber_types.specs.declared.since.Expiry.{Expiry}
-use Rattle.fiber_types.specs.declared.since.Expiry.the-variants as expiry·
-use Rattle.fiber_types.specs.Since.{since, absoluteExpiry}
+use Rattle.fiber_since.specs.declared.epoch.Scaled.the-variants as scaled·
+use Rattle.fiber_since.specs.declared.since.Since.{Since}
+use Rattle.fiber_since.specs.declared.since.Metric.{Metric}
+use Rattle.fiber_since.specs.declared.since.Expiry.{Expiry}
+use Rattle.fiber_since.specs.declared.since.Expiry.the-variants as expiry·
+use Rattle.fiber_since.specs.Since.{since, absoluteExpiry}
 use Rattle.fiber_choice.specs.declared.kinds.Choice.{Choice}
 use Rattle.fiber_choice.specs.declared.kinds.Key.{Key}
 use Rattle.fiber_choice.specs.declared.kinds.Found.{Found}

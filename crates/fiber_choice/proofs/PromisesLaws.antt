@@ -12,16 +12,16 @@ use lib.Seq.{sets, sets-eq, drop-drop, take-at, drop-at, getD-drop}
 use borrow.Author.Tests.{lt-ltb, ltb-true, le-leb, leb-true, eq-eqb, ne-eqb, eqb-true}
 use Rattle.fiber_bytes.specs.Bytes.{part}
 use Rattle.fiber_bytes.proofs.BytesLaws.{part-length}
-use Rattle.fiber_types.specs.declared.epoch.Epoch.{Epoch}
-use Rattle.fiber_types.specs.declared.epoch.Scaled.{Scaled}
-use Rattle.fiber_types.specs.declared.epoch.Scaled.the-variants as scaled·
-use Rattle.fiber_types.specs.declared.since.Expiry.{Expiry}
-use Rattle.fiber_types.specs.declared.since.Expiry.the-variants as expiry·
-use Rattle.fiber_types.specs.Since.{absoluteExpiry}
+use Rattle.fiber_since.specs.declared.epoch.Epoch.{Epoch}
+use Rattle.fiber_since.specs.declared.epoch.Scaled.{Scaled}
+use Rattle.fiber_since.specs.declared.epoch.Scaled.the-variants as scaled·
+use Rattle.fiber_since.specs.declared.since.Expiry.{Expiry}
+use Rattle.fiber_since.specs.declared.since.Expiry.the-variants as expiry·
+use Rattle.fiber_since.specs.Since.{absoluteExpiry}
 use Rattle.fiber_types.specs.declared.answer.Written.the-variants as written·
 use Rattle.fiber_types.specs.declared.tlc.Amount.{Amount}
 use Rattle.fiber_blake2b.specs.Blake2b.{ckbHash}
-use Rattle.fiber_types.specs.Epoch.{scaled}
+use Rattle.fiber_since.specs.Epoch.{scaled}
 use Rattle.fiber_types.specs.Records.{known, witnessLen, unlockBytes, outcome}
 use Rattle.fiber_blake2b.proofs.Blake2bLaws.{ckb-length}
 use Rattle.fiber_types.proofs.RecordsLaws.{unlockBytes-length, at-least, outcome-room, unlockBytes-byte, unlockBytes-flag}

@@ -6,18 +6,18 @@ use lib.ListN.{length, getD, take, drop, replicate}
 use lib.Seq.{sets}
 use lib.Dec.{eqb, ltb, leb}
 use Rattle.fiber_bytes.specs.Bytes.{part, le}
-use Rattle.fiber_types.specs.declared.epoch.Epoch.{Epoch}
-use Rattle.fiber_types.specs.declared.epoch.Scaled.{Scaled}
-use Rattle.fiber_types.specs.declared.epoch.Scaled.the-variants as scaled·
-use Rattle.fiber_types.specs.declared.since.Metric.{Metric}
-use Rattle.fiber_types.specs.declared.since.Metric.the-variants as metric·
-use Rattle.fiber_types.specs.declared.since.Expiry.{Expiry}
-use Rattle.fiber_types.specs.declared.since.Expiry.the-variants as expiry·
+use Rattle.fiber_since.specs.declared.epoch.Epoch.{Epoch}
+use Rattle.fiber_since.specs.declared.epoch.Scaled.{Scaled}
+use Rattle.fiber_since.specs.declared.epoch.Scaled.the-variants as scaled·
+use Rattle.fiber_since.specs.declared.since.Metric.{Metric}
+use Rattle.fiber_since.specs.declared.since.Metric.the-variants as metric·
+use Rattle.fiber_since.specs.declared.since.Expiry.{Expiry}
+use Rattle.fiber_since.specs.declared.since.Expiry.the-variants as expiry·
 use Rattle.fiber_types.specs.declared.tlc.Amount.{Amount}
 use Rattle.fiber_blake2b.specs.Blake2b.{ckbHash}
 use Rattle.fiber_sha256.specs.Sha256.{sha256}
-use Rattle.fiber_types.specs.Since.{since, absoluteExpiry}
-use Rattle.fiber_types.specs.Epoch.{epochOf, withinBits, scaled, due}
+use Rattle.fiber_since.specs.Since.{since, absoluteExpiry}
+use Rattle.fiber_since.specs.Epoch.{epochOf, withinBits, scaled, due}
 use Rattle.fiber_types.specs.Records.{known, amountAt, unlockBytes, hashPlace, remotePlace, localPlace, expiryPlace}
 use Rattle.fiber_witness.specs.declared.witness.WitnessRead.{WitnessRead}
 use Rattle.fiber_witness.specs.declared.witness.WitnessRead.the-variants as read·

@@ -1,5 +1,3 @@
 -- What the lower face's own operations mean: one file to a module of document 01.
 pub mod Key
-pub mod Since
-pub mod Epoch
 pub mod Records

@@ -25,7 +25,7 @@ ghost use mathlib.Core.Path.{_≡_};
 ghost use mathlib.Core.Bool.{true};
 ghost use Prim.Native.Nat.{ℕ, _+_, _*_, _≤_, _<_};
 ghost use lib.ListN.{length};
-ghost use Rattle.fiber_types.specs.Epoch.{scaled, withinBits, due, Within};
+ghost use Rattle.fiber_since.specs.Epoch.{scaled, withinBits, due, Within};
 ghost use Rattle.fiber_types.specs.Records.{known};
 ghost use Rattle.fiber_choice.specs.Lent.{entries, all, settlementWell, settlementLen, trackedLen, pairLen};
 ghost use Rattle.fiber_choice.specs.Choice as S;

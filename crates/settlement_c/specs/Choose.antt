@@ -5,7 +5,7 @@ use mathlib.Core.List.{List, [], _∷_, _++_}
 use lib.ListN.{length, getD}
 use lib.Dec.{ltb}
 use Rattle.fiber_bytes.specs.Bytes.{leBytes}
-use Rattle.fiber_types.specs.declared.epoch.Epoch.{Epoch}
+use Rattle.fiber_since.specs.declared.epoch.Epoch.{Epoch}
 use Rattle.fiber_types.specs.declared.tlc.Amount.{Amount}
 use Rattle.fiber_choice.specs.declared.kinds.Asked.{Asked}
 use Rattle.fiber_choice.specs.declared.kinds.Side.the-variants as side·

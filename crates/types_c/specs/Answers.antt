@@ -6,13 +6,13 @@ use mathlib.Core.List.{List, _++_}
 use lib.ListN.{length}
 use lib.Seq.{sets}
 use lib.Dec.{ltb}
-use Rattle.fiber_types.specs.declared.epoch.Epoch.{Epoch}
-use Rattle.fiber_types.specs.declared.epoch.Scaled.{Scaled}
-use Rattle.fiber_types.specs.declared.epoch.Scaled.the-variants as scaled·
-use Rattle.fiber_types.specs.declared.epoch.DueTest.{DueTest}
-use Rattle.fiber_types.specs.declared.epoch.DueTest.the-variants as due·
-use Rattle.fiber_types.specs.declared.since.Expiry.{Expiry}
-use Rattle.fiber_types.specs.declared.since.Expiry.the-variants as expiry·
+use Rattle.fiber_since.specs.declared.epoch.Epoch.{Epoch}
+use Rattle.fiber_since.specs.declared.epoch.Scaled.{Scaled}
+use Rattle.fiber_since.specs.declared.epoch.Scaled.the-variants as scaled·
+use Rattle.fiber_since.specs.declared.epoch.DueTest.{DueTest}
+use Rattle.fiber_since.specs.declared.epoch.DueTest.the-variants as due·
+use Rattle.fiber_since.specs.declared.since.Expiry.{Expiry}
+use Rattle.fiber_since.specs.declared.since.Expiry.the-variants as expiry·
 use Rattle.fiber_types.specs.declared.key.KeyAnswer.{KeyAnswer}
 use Rattle.fiber_types.specs.declared.key.KeyAnswer.the-variants as key·
 use Rattle.fiber_types.specs.declared.key.KeyHash.{KeyHash}

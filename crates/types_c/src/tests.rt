@@ -20,8 +20,8 @@ ghost use lib.Seq.{sets};
 ghost use Rattle.fiber_bytes.specs.Bytes.{leBytes};
 ghost use Rattle.fiber_blake2b.specs.Blake2b.{ckbHash};
 ghost use Rattle.fiber_sha256.specs.Sha256 as Sha256;
-ghost use Rattle.fiber_types.specs.Epoch.{scaled, dueTest};
-ghost use Rattle.fiber_types.specs.Since.{absoluteExpiry};
+ghost use Rattle.fiber_since.specs.Epoch.{scaled, dueTest};
+ghost use Rattle.fiber_since.specs.Since.{absoluteExpiry};
 ghost use Rattle.fiber_types.specs.Key.{keyHash};
 ghost use Rattle.types_c.specs.Answers as S;
 

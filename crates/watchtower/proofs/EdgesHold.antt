@@ -1,7 +1,7 @@
 -- The marked rows hold of the definitions: each by the law that stands beside its definition.
 use mathlib.Core.Path.{_≡_}
 use mathlib.Core.List.{map}
-use Rattle.fiber_types.proofs.EdgesLaws.{one-third, two-thirds, due-then, not-due-before, five-seconds, last-second, second-more}
+use Rattle.fiber_since.proofs.EdgesLaws.{one-third, two-thirds, due-then, not-due-before, five-seconds, last-second, second-more}
 use Rattle.fiber_types.proofs.RecordsLaws.{known-20}
 use Rattle.fiber_witness.proofs.EdgesLaws.{reads-74, refuses-73}
 use Rattle.watchtower.specs.Edges.{Edge, said, edges}

@@ -2,15 +2,15 @@
 use Prim.Native.Nat.{ℕ, _+_, _^_}
 use mathlib.Core.List.{List, [], _∷_}
 use lib.ListN.{replicate}
-use Rattle.fiber_types.specs.declared.epoch.Epoch.{Epoch}
-use Rattle.fiber_types.specs.declared.epoch.Scaled.{Scaled}
-use Rattle.fiber_types.specs.declared.epoch.Scaled.the-variants as scaled·
-use Rattle.fiber_types.specs.declared.epoch.DueTest.{DueTest}
-use Rattle.fiber_types.specs.declared.epoch.DueTest.the-variants as due·
-use Rattle.fiber_types.specs.declared.since.Expiry.{Expiry}
-use Rattle.fiber_types.specs.declared.since.Expiry.the-variants as expiry·
-use Rattle.fiber_types.specs.Epoch.{scaled, dueTest}
-use Rattle.fiber_types.specs.Since.{absoluteExpiry}
+use Rattle.fiber_since.specs.declared.epoch.Epoch.{Epoch}
+use Rattle.fiber_since.specs.declared.epoch.Scaled.{Scaled}
+use Rattle.fiber_since.specs.declared.epoch.Scaled.the-variants as scaled·
+use Rattle.fiber_since.specs.declared.epoch.DueTest.{DueTest}
+use Rattle.fiber_since.specs.declared.epoch.DueTest.the-variants as due·
+use Rattle.fiber_since.specs.declared.since.Expiry.{Expiry}
+use Rattle.fiber_since.specs.declared.since.Expiry.the-variants as expiry·
+use Rattle.fiber_since.specs.Epoch.{scaled, dueTest}
+use Rattle.fiber_since.specs.Since.{absoluteExpiry}
 use Rattle.fiber_witness.specs.declared.witness.WitnessRead.{WitnessRead}
 use Rattle.fiber_witness.specs.declared.witness.WitnessRead.the-variants as read·
 use Rattle.fiber_witness.specs.Witness.{readWitness}

@@ -4,7 +4,7 @@ use Prim.Native.Nat.{_≤_}
 use native.Mathlib.Omega.{arith}
 use lib.ListN.{length}
 use Rattle.fiber_choice.specs.Lent.{entries, trackedLen}
-use Rattle.fiber_types.proofs.EpochLaws.{third-within, third-refused}
+use Rattle.fiber_since.proofs.EpochLaws.{third-within, third-refused}
 use Rattle.fiber_choice.proofs.InitialLaws.{first-chosen, within-below, outcome-as, side-taken, side-left, thirdly-nothing, thirdly-chosen}
 use borrow.Author.Needs.{needs}
 use Rattle.fiber_walk.proofs.initial.first_thirds.Statement.{statement}

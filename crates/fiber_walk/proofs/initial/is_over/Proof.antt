@@ -1,6 +1,6 @@
 -- The due test of epochs that can be compared is never turned down.
 -- So its answer says whether they are due.
-use Rattle.fiber_types.proofs.EpochLaws.{over-due, over-not, over-refused}
+use Rattle.fiber_since.proofs.EpochLaws.{over-due, over-not, over-refused}
 use borrow.Author.Needs.{needs}
 use Rattle.fiber_walk.proofs.initial.is_over.Statement.{statement}
 use Rattle.fiber_walk.proofs.initial.is_over.Tie as tie

@@ -5,7 +5,7 @@ use mathlib.Core.Path.{ap, _∙_}
 use mathlib.Core.List.{List}
 use native.Mathlib.Omega.{arith}
 use lib.ListN.{length, drop, length-take, length-drop}
-use Rattle.fiber_types.specs.Since.{absoluteExpiry}
+use Rattle.fiber_since.specs.Since.{absoluteExpiry}
 use Rattle.fiber_choice.specs.Choice.{recordExpiry, recordOffered, timeoutKind}
 use Rattle.fiber_choice.proofs.LaterLaws.{record-of, step-none, step-timeout, step-preimage}
 use borrow.Author.Needs.{needs}

@@ -1,7 +1,7 @@
 -- By the length, by the relative bit, then by the metric.
 use mathlib.Core.Path.{ap, _∙_}
 use borrow.Author.Tests.{not-true, not-false}
-use Rattle.fiber_types.specs.declared.epoch.Scaled.the-variants as scaled·
+use Rattle.fiber_since.specs.declared.epoch.Scaled.the-variants as scaled·
 use Rattle.fiber_choice.specs.Choice.{ofMetric}
 use Rattle.fiber_choice.proofs.LaterLaws.{delay-short, delay-absolute, delay-metric}
 use borrow.Author.Needs.{needs}

@@ -1,0 +1,72 @@
+-- Epochs: fields, scaling and the due test; document 01, modules 2 to 4, with the numbers of its table.
+use Prim.Native.Nat.{ℕ, _+_, _*_, _/_, _%_, _^_, _<_}
+use mathlib.Core.Bool.{Bool, true, false, cond}
+use lib.Dec.{eqb, ltb, leb}
+use Rattle.fiber_since.specs.declared.epoch.Epoch.{Epoch}
+use Rattle.fiber_since.specs.declared.epoch.Scaled.{Scaled}
+use Rattle.fiber_since.specs.declared.epoch.Scaled.the-variants as scaled·
+use Rattle.fiber_since.specs.declared.epoch.DueTest.{DueTest}
+use Rattle.fiber_since.specs.declared.epoch.DueTest.the-variants as due·
+use Rattle.fiber_since.specs.declared.epoch.Product.{Product}
+use Rattle.fiber_since.specs.declared.epoch.Product.the-variants as product·
+
+-- an epoch value has number (bits 0 to 23), index (24 to 39) and length (40 to 55)
+unfoldable pub epochOf : ℕ → Epoch
+epochOf v = record { number = v % 2 ^ 24; index = v / 2 ^ 24 % 2 ^ 16; length = v / 2 ^ 40 % 2 ^ 16 }
+
+-- each field within its bits
+unfoldable pub withinBits : Epoch → Bool
+withinBits e = cond (ltb (e .number) (2 ^ 24)) (cond (ltb (e .index) (2 ^ 16)) (ltb (e .length) (2 ^ 16)) false) false
+
+-- ---- scaling
+
+unfoldable pub units : Epoch → ℕ
+units e = e .number * e .length + e .index
+
+-- a product that has 64 bits
+unfoldable pub checkedMul : ℕ → ℕ → Product
+checkedMul a b = cond (ltb (a * b) (2 ^ 64)) (product·.Fits (a * b)) product·.Over
+
+-- s: D div 1800 + 1 where D > 1800, else 1
+unfoldable pub factor : ℕ → ℕ
+factor d = cond (ltb 1800 d) (d / 1800 + 1) 1
+
+-- whole part N div D, rest R = N mod D; (N div D, R div s, D div s)
+unfoldable pub normalized : ℕ → ℕ → Scaled
+normalized n d =
+    cond (eqb d 0) (scaled·.Refused 7 0)
+    (cond (ltb 16777215 (n / d)) (scaled·.Refused 8 0)
+    (scaled·.Epoch (record { number = n / d; index = n % d / factor d; length = d / factor d })))
+
+-- in the order 14, N (8), D (8), 7, whole part (8), with N = numerator × units and D = denominator × length
+unfoldable pub scaled : Epoch → ℕ → ℕ → Scaled
+scaled delay numerator denominator =
+    let n = numerator * units delay in
+    let d = denominator * delay .length in
+    cond (withinBits delay)
+    (cond (leb (2 ^ 64) n) (scaled·.Refused 8 0)
+    (cond (leb (2 ^ 64) d) (scaled·.Refused 8 0)
+    (normalized n d)))
+    (scaled·.Refused 14 0)
+
+-- ---- the due test
+
+-- header + delay ≤ current, as fractions number + index / length, cross-multiplied
+unfoldable pub due : Epoch → Epoch → Epoch → Bool
+due header delay current =
+    leb ((units header * delay .length + units delay * header .length) * current .length) (units current * (header .length * delay .length))
+
+-- in the order 14, 7
+unfoldable pub dueTest : Epoch → Epoch → Epoch → DueTest
+dueTest header delay current =
+    cond (cond (withinBits header) (cond (withinBits delay) (withinBits current) false) false)
+    (cond (cond (eqb (header .length) 0) true (cond (eqb (delay .length) 0) true (eqb (current .length) 0))) (due·.Refused 7 0)
+    (cond (due header delay current) due·.Due due·.NotDue))
+    (due·.Refused 14 0)
+
+-- what the due test has found before it compares: each field within its bits, and no length of 0
+pub record Within (e : Epoch) : Type 0 where
+  pub number : e .number < 16777216
+  pub index : e .index < 65536
+  pub length : e .length < 65536
+  pub some : 0 < e .length

@@ -1,0 +1,3 @@
+-- What since values, epochs, scaling and the due test mean.
+pub mod Since
+pub mod Epoch

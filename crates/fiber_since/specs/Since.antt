@@ -1,0 +1,31 @@
+-- Since values after CKB RFC 0017; document 01, "Since and epochs".
+use Prim.Native.Nat.{ℕ, _*_, _/_, _%_, _^_}
+use mathlib.Core.Bool.{cond}
+use lib.Dec.{eqb, ltb}
+use Rattle.fiber_since.specs.declared.since.Metric.{Metric}
+use Rattle.fiber_since.specs.declared.since.Metric.the-variants.{Block, Epoch, Timestamp, None}
+use Rattle.fiber_since.specs.declared.since.Since.{Since}
+use Rattle.fiber_since.specs.declared.since.Expiry.{Expiry}
+use Rattle.fiber_since.specs.declared.since.Expiry.the-variants as expiry
+
+-- bits 62 and 61: 00 block, 01 epoch, 10 timestamp, 11 none
+unfoldable pub metricOf : ℕ → Metric
+metricOf bits = cond (eqb bits 0) Block (cond (eqb bits 1) Epoch (cond (eqb bits 2) Timestamp None))
+
+-- bit 63: relative; the low 56 bits: the value
+unfoldable pub since : ℕ → Since
+since raw = record { relative = eqb (raw / 2 ^ 63) 1; metric = metricOf (raw / 2 ^ 61 % 4); value = raw % 2 ^ 56 }
+
+-- seconds times 1000, no expiry where that passes 64 bits
+unfoldable pub millis : ℕ → Expiry
+millis seconds = cond (ltb (seconds * 1000) (2 ^ 64)) (expiry.At (seconds * 1000)) expiry.None
+
+unfoldable pub ofMetric : Metric → ℕ → Expiry
+ofMetric Block v = expiry.None
+ofMetric Epoch v = expiry.None
+ofMetric Timestamp v = millis v
+ofMetric None v = expiry.None
+
+-- an absolute timestamp, or no expiry
+unfoldable pub absoluteExpiry : ℕ → Expiry
+absoluteExpiry raw = cond (since raw .relative) expiry.None (ofMetric (since raw .metric) (since raw .value))
