@@ -14,7 +14,7 @@ use Rattle.fiber_walk.proofs.later.later_state.Tie as tie
 returns : tie.Need-returns
 returns c =
     let a = c .before .before .before .before .before .before .before .before .before .args in
-    hands-turned _ _ _ _ _ _ _ _ (state-many _ _ _ _ _ _ _ _ (counted (a .h) (a .w .now) (a .n) _ _ (c .before .count-standing .ensures)) (c .if1 .taken))
+    hands-turned _ _ _ _ _ _ _ _ (state-many _ _ _ _ _ _ _ _ (counted (a .h) (a .w .now) (a .n) _ _ (c .before .count-standing .ensures)) (omega (arith, c .if1 .taken)))
 
 same-standing-requires : tie.Need-same-standing-requires
 same-standing-requires c κs =

@@ -1,4 +1,5 @@
 -- The buffer's length, then what the choice says.
+use native.Mathlib.Omega.{arith}
 use mathlib.Core.Path.{sym, _∙_}
 use Rattle.settlement_c.specs.Choose.{numbers, handedNumbers}
 use Rattle.types_c.proofs.AnswersLaws.{behind}
@@ -8,7 +9,7 @@ use Rattle.settlement_c.proofs.choose.fiber_settlement_choose.Statement
 use Rattle.settlement_c.proofs.choose.fiber_settlement_choose.Tie as tie
 
 returns : tie.Need-returns
-returns c = choose-short _ _ _ (c .if1 .taken)
+returns c = choose-short _ _ _ (omega (arith, c .if1 .taken))
 
 returns-2 : tie.Need-returns-2
 returns-2 c =

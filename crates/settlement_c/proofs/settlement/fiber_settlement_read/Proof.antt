@@ -1,4 +1,5 @@
 -- The buffer's length, then what the reader says.
+use native.Mathlib.Omega.{arith}
 use mathlib.Core.Path.{sym, ap, _∙_}
 use mathlib.Core.List.{_++_}
 use Rattle.fiber_bytes.specs.Bytes.{leBytes}
@@ -9,7 +10,7 @@ use Rattle.settlement_c.proofs.settlement.fiber_settlement_read.Stateme
 use Rattle.settlement_c.proofs.settlement.fiber_settlement_read.Tie as tie
 
 returns : tie.Need-returns
-returns c = call-short 48 _ _ (c .if1 .taken)
+returns c = call-short 48 _ _ (omega (arith, c .if1 .taken))
 
 returns-2 : tie.Need-returns-2
 unfolding saidRead

@@ -1,4 +1,5 @@
 -- The buffer's length, then what the scaling says.
+use native.Mathlib.Omega.{arith}
 use mathlib.Core.Path.{sym, ap, _∙_}
 use mathlib.Core.List.{_++_}
 use Rattle.fiber_bytes.specs.Bytes.{leBytes}
@@ -9,7 +10,7 @@ use Rattle.types_c.proofs.tests.fiber_test_mul.Statement.{statement}
 use Rattle.types_c.proofs.tests.fiber_test_mul.Tie as tie
 
 returns : tie.Need-returns
-returns c = call-short 40 _ _ (c .if1 .taken)
+returns c = call-short 40 _ _ (omega (arith, c .if1 .taken))
 
 returns-2 : tie.Need-returns-2
 unfolding saidScaled

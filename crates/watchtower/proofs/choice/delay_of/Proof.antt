@@ -1,4 +1,5 @@
 -- By the length, by the relative bit, then by the metric.
+use native.Mathlib.Omega.{arith}
 use mathlib.Core.Path.{ap, _∙_}
 use borrow.Author.Tests.{not-true, not-false}
 use Rattle.fiber_since.specs.declared.epoch.Scaled.the-variants as scaled·
@@ -9,7 +10,7 @@ use Rattle.watchtower.proofs.choice.delay_of.Statement.{statement}
 use Rattle.watchtower.proofs.choice.delay_of.Tie as tie
 
 returns : tie.Need-returns
-returns c = delay-short _ (c .if1 .taken)
+returns c = delay-short _ (omega (arith, c .if1 .taken))
 
 returns-2 : tie.Need-returns-2
 returns-2 c =
