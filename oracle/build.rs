@@ -280,13 +280,18 @@ fn link(folder: &Path) {
         println!("cargo:rustc-link-lib=static={name}");
         match fs::read(&library) {
             Ok(bytes) => archives.push((library, bytes)),
-            Err(e) => fail(&format!("SETTLEMENT_LIB has no readable lib{name}.a ({}: {e}).", library.display())),
+            Err(e) => {
+                fail(&format!("SETTLEMENT_LIB has no readable lib{name}.a ({}: {e}).", library.display()))
+            }
         }
     }
     let mut exported = Vec::new();
     for (library, bytes) in &archives {
         let Some(symbols) = symbols(bytes) else {
-            fail(&format!("{} is no archive with an index of its symbols (GNU's format).", library.display()));
+            fail(&format!(
+                "{} is no archive with an index of its symbols (GNU's format).",
+                library.display()
+            ));
         };
         exported.extend(symbols);
     }

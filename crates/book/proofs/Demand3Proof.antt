@@ -1,196 +1,168 @@
--- The third demand: by induction over the calls, from any sound book with the first places of the TLCs that stand in it.
+-- The third demand: by induction over the calls, from any sound book, which the host's state and what is observed always are those of.
 -- Assumes nothing.
 use Prim.Native.Nat.{ℕ, zero, suc, _+_, _≤_, _<_}
 use native.Mathlib.Nat.{add-zero, le-refl}
 use native.Mathlib.Omega.{arith}
-use mathlib.Core.Path.{_≡_, refl, sym, ap, ap₂, subst, _∙_}
+use mathlib.Core.Path.{_≡_, refl, sym, ap, ap₂, subst, subst₂, fun-ext, _∙_}
 use mathlib.Core.Bool.{Bool, true, false, cond}
 use mathlib.Core.Logic.{_⊎_, inl, inr}
-use mathlib.Core.List.{List, [], _∷_, _++_}
-use lib.ListN.{length, getD, drop, drop-of-length-le}
+use mathlib.Core.List.{List, [], _∷_, _++_, map, flatMap, map-map}
+use lib.ListN.{length, getD, drop, length-map, drop-of-length-le}
 use lib.Seq.{drop-cons}
 use lib.Dec.{eqb}
 use borrow.Author.Tests.{ne-eqb, eqb-false}
-use Rattle.fiber_types.specs.Records.{known}
-use Rattle.fiber_witness.specs.Witness.{stateBytes, member}
-use Rattle.fiber_witness.specs.Update.{none, keep}
+use Rattle.fiber_types.specs.Records.{validHashLen}
+use Rattle.fiber_witness.specs.declared.unlocks.UnlocksAnswer.the-variants as unlocks·
+use Rattle.fiber_witness.specs.Witness.{member}
+use Rattle.fiber_witness.specs.Update.{none}
 use Rattle.fiber_witness.proofs.WitnessLaws.{member-none, member-more}
-use Rattle.fiber_witness.proofs.UpdateLaws.{share-kept}
-use Rattle.fiber_witness.proofs.StateLaws.{state-tlcs, state-remote, state-local}
-use Rattle.book.specs.Book.{shareAmount, amounts, Book, unpaid, bytesOf, stateOf, fresh, tlcsIn, remoteIn, localIn, opening, enter, Payment, payments}
-use Rattle.book.specs.Demand3.{Lent, OfChannel, no-call, one-more, FirstState, exported, kept, results, states, left, fed, seen, bookResults, bookStates, closing, unlocksOf, remain, accepted, firstsLeft, paid, placesFrom, total, recordsAt, Rising, rising-none, rising-more, worth, Holds, Demand3}
-use Rattle.book.proofs.StateLaws.{first-count, first-sound, first-state}
-use Rattle.book.proofs.BookLaws.{standingOf, SoundBook, after, Stays, Moves, witness, unlocks, judged, paymentsOf, turn, turn-kept, turn-sound, back-marked}
-use Rattle.book.proofs.PaymentsLaws.{Account, worthOf, Pays, pays-none, pays-append, append-total, once-stood, once-gone, Goes, goes, goes-remain, unsettled-none, recordsAt-length, recordsAt-keep, goes-pays}
+use Rattle.fiber_witness.proofs.UnlocksLaws.{unlocks-read}
+use Rattle.fiber_choice.specs.declared.kinds.Side.{Side}
+use Rattle.fiber_choice.specs.declared.kinds.Side.the-variants.{Remote, Local}
+use Rattle.settlement_c.specs.Settlement.{OutCall}
+use Rattle.book.specs.Trace.{Transition, trace, final}
+use Rattle.book.specs.Book.{tlcAmount, shareAmount, tlcsIn, shareIn, Book, placesFrom, opening, stateOf, payeeOf, enter}
+use Rattle.book.specs.Demand3.{HostCall, OfChannel, no-call, one-more, FirstState, hostTransition, lengths, bookTransition, visible, Payment, remain, Observed, observe, allStanding, total, Rising, rising-none, rising-more, worth, Holds, Demand3}
+use Rattle.book.proofs.StateLaws.{tlcs-of, share-of, first-count, first-sound, first-state}
+use Rattle.book.proofs.StandingLaws.{recordsAt, unsettled-none}
+use Rattle.book.proofs.SharesLaws.{left-none}
+use Rattle.book.proofs.BookLaws.{standingOf, SoundBook, sumOf, after, Stays, Moves, witness, unlocks, behind-state, took, paymentsOf, turn, turn-kept, turn-sound}
+use Rattle.book.proofs.PaymentsLaws.{Account, worthOf, Pays, pays-none, pays-append, append-total, once-stood, once-gone, Goes, goes, goes-remain, goes-pays}
 
--- ---- a state, its book, and the first places of the TLCs that stand
+-- ---- a book, and what is observed beside it
 
--- the account of a book
-abbrev account : Book → List ℕ → Account
-account b firsts = record { firsts = firsts; remote = b .remote; local = b .local }
+abbrev account : Book → Account
+account b = record { firsts = b .standing; shares = b .shares }
 
--- A state is the book's, the book is sound, and the TLCs that stand are the first state's records rs at rising places.
-record Agrees (h : ℕ) (rs : List (List ℕ)) (s : List ℕ) (b : Book) (firsts : List ℕ) : Type 0 where
-  state : s ≡ stateOf b
+abbrev observedOf : Book → Observed
+observedOf b = record { state = stateOf b; firsts = b .standing }
+
+-- a sound book of a first state with the records rs
+record Good (h : ℕ) (rs : List (List ℕ)) (b : Book) : Type 0 where
   sound : SoundBook h b
-  records : standingOf b ≡ recordsAt rs firsts
-  order : Rising 0 firsts
+  records : b .tlcs ≡ rs
 
--- the parts of the state are the book's
-module _ {h : ℕ} {rs : List (List ℕ)} {s : List ℕ} {b : Book} {firsts : List ℕ} (a : Agrees h rs s b firsts) where
-  tlcs-are : tlcsIn h s ≡ standingOf b
-  unfolding stateOf tlcsIn
-  tlcs-are = ap (tlcsIn h) (a .state) ∙ state-tlcs (a .sound)
+-- the parts of its state are the book's
+module _ {h : ℕ} {rs : List (List ℕ)} {b : Book} (g : Good h rs b) where
+  tlcs-are : tlcsIn h (stateOf b) ≡ recordsAt rs (b .standing)
+  unfolding stateOf
+  tlcs-are = tlcs-of (b .shares) (g .sound .parts) ∙ ap (λ (l : List (List ℕ)). recordsAt l (b .standing)) (g .records)
 
-  remote-is : remoteIn h s ≡ b .remote
-  unfolding stateOf remoteIn
-  remote-is = ap (remoteIn h) (a .state) ∙ state-remote (a .sound)
+  share-is : (side : Side) → shareIn h (stateOf b) side ≡ b .shares side
+  unfolding stateOf
+  share-is side = share-of (b .shares) (g .sound .parts) side
 
-  local-is : localIn h s ≡ b .local
-  unfolding stateOf localIn
-  local-is = ap (localIn h) (a .state) ∙ state-local (a .sound)
-
-  worth-is : worth h s ≡ worthOf rs (account b firsts)
+  worth-is : worth h (stateOf b) ≡ worthOf rs (account b)
   unfolding worth worthOf
   worth-is =
-      let t : amounts (tlcsIn h s) ≡ amounts (recordsAt rs firsts) = ap amounts (tlcs-are ∙ a .records) in
-      let r : shareAmount (remoteIn h s) ≡ shareAmount (b .remote) = ap shareAmount remote-is in
-      let l : shareAmount (localIn h s) ≡ shareAmount (b .local) = ap shareAmount local-is in
-      omega (arith, t, r, l)
+      let t : total (map tlcAmount (tlcsIn h (stateOf b))) ≡ total (map tlcAmount (recordsAt rs (b .standing))) = rw tlcs-are in
+      omega (arith, t, ap shareAmount (share-is Remote), ap shareAmount (share-is Local))
 
 -- ---- one call
 
 -- from one book to the next, with what is paid between
-record Moved (rs : List (List ℕ)) (b : Book) (firsts : List ℕ) (ps : List Payment) (b′ : Book) (firsts′ : List ℕ) : Type 0 where
-  records : standingOf b′ ≡ recordsAt rs firsts′
-  pays : Pays rs (account b firsts) ps (account b′ firsts′)
-  sum : b′ .paid ≡ b .paid + total ps
+record Moved (rs : List (List ℕ)) (b : Book) (ps : List Payment) (b′ : Book) : Type 0 where
+  pays : Pays rs (account b) ps (account b′)
+  sum : b′ .paid ≡ b .paid + sumOf ps
 
--- what the observer counts of a call: its payments, and the first places that remain
-abbrev counted : ℕ → List ℕ → List ℕ → Lent → List Payment
-counted h s firsts c = payments (tlcsIn h s) firsts (shareAmount (remoteIn h s)) (shareAmount (localIn h s)) (unlocksOf s c)
+moved-none : (rs : List (List ℕ)) (b : Book) → Moved rs b [] b
+unfolding total
+moved-none rs b = record { pays = pays-none rs (account b); sum = sym (add-zero (b .paid)) }
 
-abbrev now : ℕ → List ℕ → List ℕ → Lent → List Payment
-now h s firsts c = cond (accepted s c) (counted h s firsts c) []
+-- one move behind another
+moved-append : {rs : List (List ℕ)} {b b′ b″ : Book} {ps qs : List Payment} → Moved rs b ps b′ → Moved rs b′ qs b″ → Moved rs b (ps ++ qs) b″
+moved-append {ps = ps} {qs = qs} x y = record { pays = pays-append (x .pays) (y .pays); sum = omega (arith, x .sum, y .sum, append-total ps qs) }
 
-abbrev next : List ℕ → List ℕ → Lent → List ℕ
-next s firsts c = cond (accepted s c) (remain (unlocksOf s c) 0 firsts) firsts
+-- a call, with what is observed of it: the same answer and state, and after it a good book
+record Follows (h : ℕ) (rs : List (List ℕ)) (b : Book) (c : HostCall) (r : Transition Observed (List Payment)) : Type 0 where
+  same : hostTransition (stateOf b) c ≡ visible (bookTransition b c)
+  next : r .next ≡ observedOf (bookTransition b c .next)
+  good : Good h rs (bookTransition b c .next)
+  moves : Moved rs b (r .answer) (bookTransition b c .next)
 
-module _ (h : ℕ) (rs : List (List ℕ)) (b : Book) (firsts : List ℕ) (a : Agrees h rs (stateOf b) b firsts) (c : Lent) where
-  -- an accepted call: the TLCs that stand, the payments, the sum
-  moved-after : Goes (length firsts) none (unlocksOf (stateOf b) c) (judged b c .taken)
-      → Moved rs b firsts (counted h (stateOf b) firsts c) (after b (judged b c .taken) (b .paid + total (paymentsOf b c firsts))) (remain (unlocksOf (stateOf b) c) 0 firsts)
-  unfolding unlocksOf
-  moved-after g =
-      let t = judged b c .taken in
-      let e = goes-remain g refl firsts in
-      rw (tlcs-are a, remote-is a, local-is a, e)
-      (record {
-        records = back-marked (t .settled) (b .tlcs) 0 ∙ ap (keep (t .settled) 0) (a .records) ∙ recordsAt-keep rs (t .settled) 0 firsts;
-        pays =
-            rw (unsettled-none 0 firsts, share-kept (b .remote), share-kept (b .local)) at
-            (goes-pays rs (standingOf b) firsts (b .remote) (b .local) (a .records) g (rw (unsettled-none 0 firsts) (a .order)));
-        sum = refl;
-      })
+module _ (h : ℕ) (rs : List (List ℕ)) (b : Book) (c : HostCall) (g : Good h rs b) where
+  abbrev sum : ℕ
+  sum = b .paid + sumOf (paymentsOf b c)
 
-  -- its unlocks go one after the other
-  went : Moves b (judged b c) (b .paid + total (paymentsOf b c firsts)) (exported (stateOf b) c) (enter b (fed c))
-      → Goes (length firsts) none (unlocksOf (stateOf b) c) (judged b c .taken)
-  unfolding unlocksOf
-  went m =
-      subst (λ (n : ℕ). Goes n none (unlocksOf (stateOf b) c) (judged b c .taken)) (ap length (a .records) ∙ recordsAt-length rs firsts)
-      (goes (length (standingOf b)) (witness b c) (a .sound .few) (unlocks b c) none (m .fine))
+  -- what is observed of a call that is turned down, and of one that is accepted
+  observe-stays : eqb (hostTransition (stateOf b) c .answer .status) 0 ≡ false → observe h (observedOf b) c ≡ record { answer = []; next = observedOf b }
+  unfolding observe
+  observe-stays e = rw e
 
-  -- the call moves the book as the observer counts
-  moved : Stays b (exported (stateOf b) c) (enter b (fed c)) ⊎ Moves b (judged b c) (b .paid + total (paymentsOf b c firsts)) (exported (stateOf b) c) (enter b (fed c))
-      → Moved rs b firsts (now h (stateOf b) firsts c) (enter b (fed c) .book) (next (stateOf b) firsts c)
-  unfolding accepted total
-  moved (inl s) =
-      rw (s .status, s .book)
-      (record { records = a .records; pays = pays-none rs (account b firsts); sum = sym (add-zero (b .paid)) })
-  moved (inr m) = rw (m .status, m .book) (moved-after (went m))
+  observe-moves : eqb (hostTransition (stateOf b) c .answer .status) 0 ≡ true
+      → observe h (observedOf b) c ≡ record { answer = paymentsOf b c; next = record { state = hostTransition (stateOf b) c .next; firsts = remain (map payeeOf (unlocks c)) 0 (b .standing) } }
+  unfolding observe
+  observe-moves e = let f : shareIn h (stateOf b) ≡ b .shares = fun-ext (share-is g) in rw (e, tlcs-are g, f, ← g .records)
 
--- a call: the same answer, and the book and the state agree after it
-record Step (h : ℕ) (rs : List (List ℕ)) (s : List ℕ) (b : Book) (firsts : List ℕ) (c : Lent) : Type 0 where
-  same : exported s c ≡ seen c (enter b (fed c) .answer) (stateOf (enter b (fed c) .book))
-  after : Agrees h rs (kept s c) (enter b (fed c) .book) (next s firsts c)
-  moves : Moved rs b firsts (now h s firsts c) (enter b (fed c) .book) (next s firsts c)
+  -- the unlocks of an accepted call go one after the other
+  went : took b c .answer ≡ unlocks·.Fine → Goes (length (b .standing)) none (map payeeOf (unlocks c)) (took b c .taken)
+  went v =
+      subst (λ (n : ℕ). Goes n none (map payeeOf (unlocks c)) (took b c .taken)) (length-map (b .standing) (λ (i : ℕ). getD (b .tlcs) i []))
+      (goes (length (standingOf b)) (unlocks-read (witness b c) (1 + length (stateOf b)) (c .behind) (behind-state b c)) none v)
 
--- each call of the channel is one
-step : (h : ℕ) (rs : List (List ℕ)) (b : Book) (firsts : List ℕ) → Agrees h rs (stateOf b) b firsts → (c : Lent) → (c .h ≡ h) ⊎ (known (c .h) ≡ false)
-    → Step h rs (stateOf b) b firsts c
-step h rs b firsts a c of =
-    let t = turn h b (a .sound) c firsts of in
-    let m = moved h rs b firsts a c (t .how) in
-    let p = b .paid + total (paymentsOf b c firsts) in
-    record {
-      same = t .same;
-      after = record {
-        state = turn-kept b c (judged b c) p (enter b (fed c)) (t .how);
-        sound = turn-sound b c (judged b c) p (enter b (fed c)) h (exported (stateOf b) c) (a .sound) (t .how);
-        records = m .records;
-        order = m .pays .order (a .order);
-      };
-      moves = m;
-    }
+  -- and pay
+  moved-after : Goes (length (b .standing)) none (map payeeOf (unlocks c)) (took b c .taken) → Moved rs b (paymentsOf b c) (after b (took b c .taken) sum)
+  moved-after w = record {
+    pays =
+        rw (unsettled-none 0 (b .standing), left-none (b .shares)) at
+        (goes-pays rs (standingOf b) (b .standing) (b .shares) (ap (λ (l : List (List ℕ)). recordsAt l (b .standing)) (g .records)) w
+        (rw (unsettled-none 0 (b .standing)) (g .sound .order)));
+    sum = refl;
+  }
+
+  -- each call of the channel follows the book
+  follows : (c .h ≡ h) ⊎ (validHashLen (c .h) ≡ false) → Follows h rs b c (observe h (observedOf b) c)
+  unfolding bookTransition
+  follows of =
+      let t = turn h b (g .sound) c of in
+      let e = enter b (lengths c) in
+      let kept = turn-kept b c (took b c) sum e (t .how) in
+      let sound = turn-sound b c (took b c) sum e h (hostTransition (stateOf b) c .answer) (g .sound) (t .how) in
+      go (t .how) (λ i. record { answer = t .same i; next = kept i }) kept sound
+    where
+      go : Stays b (hostTransition (stateOf b) c .answer) (enter b (lengths c)) ⊎ Moves b (took b c) sum (hostTransition (stateOf b) c .answer) (enter b (lengths c))
+          → hostTransition (stateOf b) c ≡ visible (bookTransition b c) → hostTransition (stateOf b) c .next ≡ stateOf (enter b (lengths c) .next) → SoundBook h (enter b (lengths c) .next)
+          → Follows h rs b c (observe h (observedOf b) c)
+      go (inl s) same kept sound =
+          rw (observe-stays (s .status))
+          (record { same = same; next = rw (s .book); good = rw (s .book) g; moves = rw (s .book) (moved-none rs b) })
+      go (inr m) same kept sound =
+          let w = went (m .fine) in
+          let firsts : remain (map payeeOf (unlocks c)) 0 (b .standing) ≡ enter b (lengths c) .next .standing = goes-remain w refl (b .standing) ∙ sym (ap (λ (x : Book). x .standing) (m .book)) in
+          rw (observe-moves (m .status))
+          (record {
+            same = same;
+            next = rw (kept, firsts);
+            good = record { sound = sound; records = ap (λ (x : Book). x .tlcs) (m .book) ∙ g .records };
+            moves = rw (← m .book) at (moved-after w);
+          })
 
 -- ---- all calls
 
--- one move behind another
-moved-append : {rs : List (List ℕ)} {b b′ b″ : Book} {fs fs′ fs″ : List ℕ} {ps qs : List Payment}
-    → Moved rs b fs ps b′ fs′ → Moved rs b′ fs′ qs b″ fs″ → Moved rs b fs (ps ++ qs) b″ fs″
-moved-append {ps = ps} {qs = qs} x y = record {
-  records = y .records;
-  pays = pays-append (x .pays) (y .pays);
-  sum = omega (arith, x .sum, y .sum, append-total ps qs);
-}
-
--- a call that is not accepted is as if it were not there
-paid-cons : (h : ℕ) (s firsts : List ℕ) (c : Lent) (cs : List Lent) → paid h s firsts (c ∷ cs) ≡ now h s firsts c ++ paid h (kept s c) (next s firsts c) cs
-unfolding paid kept accepted
-paid-cons h s firsts c cs = go (eqb (exported s c .status) 0) refl
-  where
-    go : (t : Bool) → eqb (exported s c .status) 0 ≡ t → paid h s firsts (c ∷ cs) ≡ now h s firsts c ++ paid h (kept s c) (next s firsts c) cs
-    go true e = simp e
-    go false e = simp e
-
 -- the answers, the states, the book and the payments, after any calls of the channel
-record Onward (h : ℕ) (rs : List (List ℕ)) (s : List ℕ) (b : Book) (firsts : List ℕ) (cs : List Lent) : Type 0 where
-  answers : results s cs ≡ bookResults b cs
-  every-state : states s cs ≡ bookStates b cs
-  after : Agrees h rs (left s cs) (closing b cs) (firstsLeft s firsts cs)
-  moves : Moved rs b firsts (paid h s firsts cs) (closing b cs) (firstsLeft s firsts cs)
+record Onward (h : ℕ) (rs : List (List ℕ)) (b : Book) (s : List ℕ) (o : Observed) (cs : List HostCall) : Type 0 where
+  calls : trace hostTransition s cs ≡ map visible (trace bookTransition b cs)
+  state : final hostTransition s cs ≡ stateOf (final bookTransition b cs)
+  observed : final (observe h) o cs ≡ observedOf (final bookTransition b cs)
+  good : Good h rs (final bookTransition b cs)
+  moves : Moved rs b (flatMap (λ (r : Transition Observed (List Payment)). r .answer) (trace (observe h) o cs)) (final bookTransition b cs)
 
 -- by induction over the calls
-onward : {h : ℕ} {rs : List (List ℕ)} {s : List ℕ} {b : Book} {firsts : List ℕ} {cs : List Lent} → Agrees h rs s b firsts → OfChannel h cs → Onward h rs s b firsts cs
-unfolding results states left bookResults bookStates closing firstsLeft paid total
-onward {rs = rs} {b = b} {firsts = firsts} a no-call =
+onward : {h : ℕ} {rs : List (List ℕ)} {b : Book} {cs : List HostCall} → Good h rs b → OfChannel h cs → Onward h rs b (stateOf b) (observedOf b) cs
+unfolding trace final flatMap
+onward {rs = rs} {b = b} g no-call = record { calls = refl; state = refl; observed = refl; good = g; moves = moved-none rs b }
+onward {h} {rs} {b} g (one-more {c = c} {cs = cs} of more) =
+    let f = follows h rs b c g of in
+    let n = subst₂ (λ (s : List ℕ) (o : Observed). Onward h rs (bookTransition b c .next) s o cs) (sym (ap (λ (r : Transition (List ℕ) OutCall). r .next) (f .same))) (sym (f .next)) (onward (f .good) more) in
     record {
-      answers = refl;
-      every-state = refl;
-      after = a;
-      moves = record { records = a .records; pays = pays-none rs (account b firsts); sum = sym (add-zero (b .paid)) };
-    }
-onward {h} {rs} {s} {b} {firsts} a (one-more {c = c} {cs = cs} of more) =
-    let at = subst (λ (x : List ℕ). Agrees h rs x b firsts) (a .state) a in
-    let st = subst (λ (x : List ℕ). Step h rs x b firsts c) (sym (a .state)) (step h rs b firsts at c of) in
-    let o = onward (st .after) more in
-    record {
-      answers = ap₂ _∷_ (st .same) (o .answers);
-      every-state = ap₂ _∷_ (st .after .state) (o .every-state);
-      after = o .after;
-      moves =
-          subst (λ (ps : List Payment). Moved rs b firsts ps (closing b (c ∷ cs)) (firstsLeft s firsts (c ∷ cs))) (sym (paid-cons h s firsts c cs))
-          (moved-append (st .moves) (o .moves));
+      calls = ap₂ _∷_ (f .same) (n .calls);
+      state = n .state;
+      observed = n .observed;
+      good = n .good;
+      moves = moved-append (f .moves) (n .moves);
     }
 
 -- ---- the first state
-
--- all of its TLCs stand
-fresh-stands : (rs : List (List ℕ)) → bytesOf (unpaid (fresh rs)) ≡ rs
-unfolding fresh unpaid bytesOf
-fresh-stands [] = refl
-fresh-stands (r ∷ rs) = ap (λ (l : List (List ℕ)). r ∷ l) (fresh-stands rs)
 
 -- all places, in order: those below their end, none beyond
 places-order : (i n : ℕ) → Rising i (placesFrom i n)
@@ -214,7 +186,7 @@ places-beyond i (suc n) k f = simp (member-more, ne-eqb k i (omega arith)) (plac
 
 -- all places of a list have all its records
 places-records : (rs : List (List ℕ)) (i n : ℕ) → i + n ≡ length rs → recordsAt rs (placesFrom i n) ≡ drop i rs
-unfolding recordsAt placesFrom
+unfolding placesFrom
 places-records rs i zero e =
     let g : length rs ≤ i = omega arith in
     sym (drop-of-length-le rs g)
@@ -223,40 +195,47 @@ places-records rs i (suc n) e =
     ∙ sym (drop-cons rs i [] (omega arith))
 
 module _ (h : ℕ) (s : List ℕ) (first : FirstState h s) where
-  -- it agrees with its book
-  opens : Agrees h (tlcsIn h s) s (opening h s) (placesFrom 0 (getD s 0 0))
+  all-stand : recordsAt (tlcsIn h s) (placesFrom 0 (getD s 0 0)) ≡ tlcsIn h s
+  all-stand = places-records (tlcsIn h s) 0 (getD s 0 0) (omega (arith, first-count first))
+
+  -- its book is good, and has its state
+  opens : Good h (tlcsIn h s) (opening h s)
+  unfolding opening
+  opens = record { sound = record { parts = rw all-stand (first-sound first); order = places-order 0 (getD s 0 0) }; records = refl }
+
+  opens-state : stateOf (opening h s) ≡ s
   unfolding opening stateOf
-  opens =
-      let e = fresh-stands (tlcsIn h s) in
-      record {
-        state = sym (first-state h s first) ∙ ap (λ (l : List (List ℕ)). stateBytes l (remoteIn h s) (localIn h s)) (sym e);
-        sound = rw e (first-sound h s first);
-        records = e ∙ sym (places-records (tlcsIn h s) 0 (getD s 0 0) (omega (arith, first-count h s first)));
-        order = places-order 0 (getD s 0 0);
-      }
+  opens-state = rw all-stand (first-state first)
 
   -- each part of the claim is a part of what holds onward from there
-  proof : (cs : List Lent) → OfChannel h cs → Holds h s cs
+  proof : (cs : List HostCall) → OfChannel h cs → Holds h s cs
   unfolding opening
   proof cs of =
-      let o = onward opens of in
+      let o = subst (λ (x : List ℕ). Onward h (tlcsIn h s) (opening h s) x (record { state = x; firsts = placesFrom 0 (getD s 0 0) }) cs) opens-state (onward opens of) in
       let p = o .moves .pays in
+      let standing : allStanding h s cs ≡ final bookTransition (opening h s) cs .standing = ap (λ (x : Observed). x .firsts) (o .observed) in
       record {
-        answers = o .answers;
-        every-state = o .every-state;
-        last-state = o .after .state;
-        remote-once = p .remote .once;
-        local-once = p .local .once;
-        tlc-once = λ i f. once-stood (p .tlcs i) (places-below 0 (getD s 0 0) i (omega arith) (omega arith));
+        calls = o .calls;
+        last-state = o .state;
+        share-once = λ side. p .shares side .once;
+        tlc-once = λ i f. rw standing (once-stood (p .tlcs i) (places-below 0 (getD s 0 0) i (omega arith) (omega arith)));
         no-other = λ i f. once-gone (p .tlcs i) (places-beyond 0 (getD s 0 0) i (omega arith));
-        bytes-kept = tlcs-are (o .after) ∙ o .after .records;
-        order-kept = o .after .order;
-        sum = omega (arith, p .sum, worth-is opens, worth-is (o .after));
+        bytes-kept = rw (standing, o .state) (tlcs-are (o .good));
+        order-kept = rw standing (o .good .sound .order);
+        sum = omega (arith, p .sum, ap (worth h) opens-state, worth-is opens, ap (worth h) (o .state), worth-is (o .good));
         book-sum = omega (arith, o .moves .sum);
-        remote-apart = remote-is (o .after) ∙ p .remote .apart;
-        local-apart = local-is (o .after) ∙ p .local .apart;
+        share-apart = λ side. rw (o .state) (share-is (o .good) side ∙ p .shares side .apart);
       }
 
 -- The third demand holds of every list of calls of every channel.
 pub demand3 : Demand3
 demand3 = proof
+
+-- ---- what the equality of all calls says of answers and of states apart
+
+module _ {h : ℕ} {s : List ℕ} {cs : List HostCall} (holds : Holds h s cs) where
+  pub answers : map (λ (r : Transition (List ℕ) OutCall). r .answer) (trace hostTransition s cs) ≡ map (λ (e : Transition Book OutCall). e .answer) (trace bookTransition (opening h s) cs)
+  answers = ap (map (λ (r : Transition (List ℕ) OutCall). r .answer)) (holds .calls) ∙ map-map (λ (r : Transition (List ℕ) OutCall). r .answer) visible (trace bookTransition (opening h s) cs)
+
+  pub every-state : map (λ (r : Transition (List ℕ) OutCall). r .next) (trace hostTransition s cs) ≡ map (λ (e : Transition Book OutCall). stateOf (e .next)) (trace bookTransition (opening h s) cs)
+  every-state = ap (map (λ (r : Transition (List ℕ) OutCall). r .next)) (holds .calls) ∙ map-map (λ (r : Transition (List ℕ) OutCall). r .next) visible (trace bookTransition (opening h s) cs)

@@ -1,130 +1,119 @@
--- The book of a channel; document 01, "The book". It says what each update of one channel answers and leaves, and knows the update only by
--- the layout of a witness and by document 01's words.
-use Prim.Native.Nat.{ℕ, _+_, _*_}
+-- The book of a channel; document 01, "The book". It says what each update of one channel answers and leaves, by the layout of a witness and by
+-- document 01's words alone: no length and no reading of unlocks is the update's.
+use Prim.Native.Nat.{ℕ, zero, suc, _+_, _*_}
 use mathlib.Core.Bool.{Bool, true, false, cond}
-use mathlib.Core.List.{List, [], _∷_, _++_}
-use lib.ListN.{length, getD, set, drop, replicate}
+use mathlib.Core.List.{List, [], _∷_, map}
+use lib.ListN.{length, getD, drop, replicate}
 use lib.Dec.{ltb, leb, eqb}
 use Rattle.fiber_bytes.specs.Bytes.{part, le}
-use Rattle.fiber_types.specs.Records.{known}
-use Rattle.fiber_witness.specs.Witness.{recordLen, records, stateBytes, places, unlessCut}
-use Rattle.settlement_c.specs.Settlement.{updateAnswerLen}
+use Rattle.fiber_types.specs.Records.{validHashLen}
+use Rattle.fiber_witness.specs.Unlocks.{unlocksIn}
+use Rattle.fiber_witness.specs.Witness.{records, flat, stateBytes, member}
+use Rattle.fiber_choice.specs.declared.kinds.Side.{Side}
+use Rattle.fiber_choice.specs.declared.kinds.Side.the-variants.{Remote, Local}
+use Rattle.book.specs.Trace.{Transition}
 
--- ---- amounts, as unbounded numbers
+-- ---- the parts of a state
 
--- a TLC's, behind its type
+-- a TLC: type 1, amount 16, hash h, remote key hash 20, local key hash 20, expiry 8; amounts are numbers without bound
+unfoldable pub tlcLen : ℕ → ℕ
+tlcLen h = 1 + 16 + h + 20 + 20 + 8
+
 unfoldable pub tlcAmount : List ℕ → ℕ
 tlcAmount r = le (part r 1 16)
 
--- a share's, behind its key hash
+-- a share: key hash 20, amount 16
 unfoldable pub shareAmount : List ℕ → ℕ
 shareAmount s = le (part s 20 16)
 
-unfoldable pub amounts : List (List ℕ) → ℕ
-amounts [] = 0
-amounts (r ∷ rs) = tlcAmount r + amounts rs
+-- a state of a channel whose hashes have h bytes: the number of TLCs, the TLCs, remote share, local share
+unfoldable pub tlcsIn : ℕ → List ℕ → List (List ℕ)
+tlcsIn h s = records (tlcLen h) (getD s 0 0) (drop 1 s)
+
+unfoldable pub shareIn : ℕ → List ℕ → Side → List ℕ
+shareIn h s Remote = part s (1 + getD s 0 0 * tlcLen h) 36
+shareIn h s Local = part s (1 + getD s 0 0 * tlcLen h + 36) 36
 
 -- ---- what the book holds
 
--- a TLC of the first state, standing or paid
-pub record Slot : Type 0 where
-  pub bytes : List ℕ
-  pub paid : Bool
-
--- the first state's TLCs, both shares, and the sum paid
+-- the first state's TLCs, the places there of those that stand (the others are paid), both shares, and the sum paid
 pub record Book : Type 0 where
-  pub tlcs : List Slot
-  pub remote : List ℕ
-  pub local : List ℕ
+  pub tlcs : List (List ℕ)
+  pub standing : List ℕ
+  pub shares : Side → List ℕ
   pub paid : ℕ
 
--- the TLCs that stand, in first order
-unfoldable pub unpaid : List Slot → List Slot
-unpaid [] = []
-unpaid (s ∷ ss) =
-    let next = unpaid ss in
-    cond (s .paid) next (s ∷ next)
+-- n places from i on
+unfoldable pub placesFrom : ℕ → ℕ → List ℕ
+placesFrom i zero = []
+placesFrom i (suc n) = i ∷ placesFrom (suc i) n
 
-unfoldable pub bytesOf : List Slot → List (List ℕ)
-bytesOf [] = []
-bytesOf (s ∷ ss) = s .bytes ∷ bytesOf ss
+-- a first state's book
+unfoldable pub opening : ℕ → List ℕ → Book
+opening h s = record { tlcs = tlcsIn h s; standing = placesFrom 0 (getD s 0 0); shares = shareIn h s; paid = 0 }
 
 -- the state left: the number standing, their records in first order, remote share, local share
 unfoldable pub stateOf : Book → List ℕ
-stateOf b = stateBytes (bytesOf (unpaid (b .tlcs))) (b .remote) (b .local)
+stateOf b = stateBytes (map (λ (i : ℕ). getD (b .tlcs) i []) (b .standing)) (b .shares Remote) (b .shares Local)
 
--- ---- a first state's book
+-- ---- what an unlock pays
 
-unfoldable pub fresh : List (List ℕ) → List Slot
-fresh [] = []
-fresh (r ∷ rs) = record { bytes = r; paid = false } ∷ fresh rs
+-- a share, or a TLC by its place
+pub data Payee : Type 0 where
+  share : Side → Payee
+  tlc : ℕ → Payee
 
--- the parts of a state of a channel whose hashes have h bytes
-unfoldable pub tlcsIn : ℕ → List ℕ → List (List ℕ)
-tlcsIn h s = records (recordLen h) (getD s 0 0) (drop 1 s)
+-- 0xFF is the local share, 0xFE the remote one, another byte a place
+unfoldable pub payeeOf : List ℕ → Payee
+payeeOf u = cond (eqb (getD u 0 0) 255) (share Local) (cond (eqb (getD u 0 0) 254) (share Remote) (tlc (getD u 0 0)))
 
-unfoldable pub remoteIn : ℕ → List ℕ → List ℕ
-remoteIn h s = part s (1 + getD s 0 0 * recordLen h) 36
+unfoldable pub sameSide : Side → Side → Bool
+sameSide Remote Remote = true
+sameSide Remote Local = false
+sameSide Local Remote = false
+sameSide Local Local = true
 
-unfoldable pub localIn : ℕ → List ℕ → List ℕ
-localIn h s = part s (1 + getD s 0 0 * recordLen h + 36) 36
+-- another value for one side
+unfoldable pub change : {A : Type 0} → Side → A → (Side → A) → Side → A
+change side x f other = cond (sameSide side other) x (f other)
 
-unfoldable pub opening : ℕ → List ℕ → Book
-opening h s = record { tlcs = fresh (tlcsIn h s); remote = remoteIn h s; local = localIn h s; paid = 0 }
+unfoldable pub without : ℕ → List ℕ → List ℕ
+without f [] = []
+without f (g ∷ gs) =
+    let next = without f gs in
+    cond (eqb f g) next (g ∷ next)
 
--- ---- a call's unlocks, in order, on the TLCs that stood before it
-
-pub data Ran : Type 0 where
-  ran : Book → Ran
-  fault : ℕ → ℕ → Ran
-
--- A share is paid its amount at that moment; its key hash and its amount become zeros.
-unfoldable pub payLocal : Book → Book
-payLocal b = record { tlcs = b .tlcs; remote = b .remote; local = replicate 36 0; paid = b .paid + shareAmount (b .local) }
-
-unfoldable pub payRemote : Book → Book
-payRemote b = record { tlcs = b .tlcs; remote = replicate 36 0; local = b .local; paid = b .paid + shareAmount (b .remote) }
-
-abbrev pub slotAt : List Slot → ℕ → Slot
-slotAt ss i = getD ss i (record { bytes = []; paid = true })
-
--- A TLC is paid its amount and marked paid.
-unfoldable pub payTlc : ℕ → Book → Book
-payTlc i b = record {
-  tlcs = set (b .tlcs) i (record { bytes = slotAt (b .tlcs) i .bytes; paid = true });
-  remote = b .remote;
-  local = b .local;
-  paid = b .paid + tlcAmount (slotAt (b .tlcs) i .bytes);
+-- A share is paid its amount at that moment, and its key hash and its amount become zeros. A TLC is paid its amount and stands no longer; its
+-- place counts those that stood before the call.
+unfoldable pub pay : Book → Payee → Book → Book
+pay before (share side) b = record {
+  tlcs = b .tlcs;
+  standing = b .standing;
+  shares = change side (replicate 36 0) (b .shares);
+  paid = b .paid + shareAmount (b .shares side);
+}
+pay before (tlc i) b = record {
+  tlcs = b .tlcs;
+  standing = without (getD (before .standing) i 0) (b .standing);
+  shares = b .shares;
+  paid = b .paid + tlcAmount (getD (b .tlcs) (getD (before .standing) i 0) []);
 }
 
--- the unlocks at the places of a witness
-unfoldable pub run : List ℕ → Book → List ℕ → Ran
-run w b [] = ran b
-run w b (p ∷ ps) =
-    let byte = getD w p 0 in
-    let onLocal = run w (payLocal b) ps in
-    let onRemote = run w (payRemote b) ps in
-    let onTlc = run w (payTlc byte b) ps in
-    cond (eqb byte 255) onLocal
-    (cond (eqb byte 254) onRemote
-    (cond (ltb byte (length (b .tlcs)))
-    (cond (slotAt (b .tlcs) byte .paid) (fault 6 p) onTlc)
-    (fault 5 p)))
-
--- the TLCs that stood, as the call left them, back among those paid before
-unfoldable pub back : List Slot → List Slot → List Slot
-back [] rs = []
-back (s ∷ ss) rs = cond (s .paid) (s ∷ back ss rs) (getD rs 0 s ∷ back ss (drop 1 rs))
+-- a fault's number: 5 where a TLC is not there, 6 where it is paid already
+unfoldable pub unlessFaulty : {A : Type 0} → Book → Payee → Book → (ℕ → A) → A → A
+unlessFaulty before (share side) b fault next = next
+unlessFaulty before (tlc i) b fault next =
+    cond (ltb i (length (before .standing))) (cond (member (getD (before .standing) i 0) (b .standing)) next (fault 6)) (fault 5)
 
 -- ---- a call
 
--- A call's arguments: the last two are the lengths of the output and of the answer buffer.
-pub record Call : Type 0 where
+-- its arguments, with the two buffers or with their lengths
+pub record Call (Buffer : Type 0) : Type 0 where
   pub h : ℕ
   pub count : ℕ
   pub behind : List ℕ
-  pub out : ℕ
-  pub answer : ℕ
+  pub out : Buffer
+  pub answer : Buffer
 
 -- the length of the state left, or the row's number and place; with a short answer buffer the number alone
 pub data Answer : Type 0 where
@@ -132,59 +121,29 @@ pub data Answer : Type 0 where
   refused : ℕ → ℕ → Answer
   wrote : ℕ → Answer
 
-pub record Entry : Type 0 where
-  pub answer : Answer
-  pub book : Book
-
 -- a call that is turned down changes nothing
-abbrev pub unmoved : Answer → Book → Entry
-unmoved a b = record { answer = a; book = b }
+abbrev pub unmoved : Answer → Book → Transition Book Answer
+unmoved a before = record { answer = a; next = before }
 
-unfoldable pub closed : ℕ → Book → Book → Entry
-closed out b next =
-    cond (leb (length (stateOf next)) out) (record { answer = wrote (length (stateOf next)); book = next }) (unmoved (refused 13 (length (stateOf next))) b)
+-- behind the last unlock, where the output has room for the state left
+unfoldable pub close : ℕ → Book → Book → Transition Book Answer
+close room before b =
+    let len = length (stateOf b) in
+    cond (leb len room) (record { answer = wrote len; next = b }) (unmoved (refused 13 len) before)
 
-unfoldable pub afterRun : ℕ → Book → Ran → Entry
-afterRun out b (ran r) = closed out b (record { tlcs = back (b .tlcs) (r .tlcs); remote = r .remote; local = r .local; paid = r .paid })
-afterRun out b (fault number place) = unmoved (refused number place) b
+-- the unlocks in order, the first at a place
+unfoldable pub run : ℕ → Book → ℕ → Book → List (List ℕ) → Transition Book Answer
+run room before at b [] = close room before b
+run room before at b (u ∷ us) =
+    let next = run room before (at + length u) (pay before (payeeOf u) b) us in
+    unlessFaulty before (payeeOf u) b (λ number. unmoved (refused number at) before) next
 
--- only the TLCs that stand, for a call's unlocks to run on
-abbrev pub opened : Book → Book
-opened b = record { tlcs = unpaid (b .tlcs); remote = b .remote; local = b .local; paid = b .paid }
-
--- a call's witness: a count byte, the state, bytes behind it
-abbrev pub witnessOf : ℕ → List ℕ → List ℕ → List ℕ
-witnessOf count state behind = count ∷ (state ++ behind)
-
-unfoldable pub enter : Book → Call → Entry
+-- The answer has number 8, place 8, length 8. The first unlock stands behind a count byte and the state.
+unfoldable pub enter : Book → Call ℕ → Transition Book Answer
 enter b c =
-    let w = witnessOf (c .count) (stateOf b) (c .behind) in
-    let ps = places w (1 + length (stateOf b)) in
-    cond (ltb (c .answer) updateAnswerLen) (unmoved (alone 14) b)
-    (cond (known (c .h))
-    (unlessCut w ps (λ p. unmoved (refused 4 p) b) (afterRun (c .out) b (run w (opened b) ps)))
+    let at = 1 + length (stateOf b) in
+    let u = unlocksIn (c .behind) in
+    cond (ltb (c .answer) 24) (unmoved (alone 14) b)
+    (cond (validHashLen (c .h))
+    (cond (eqb (length (u .rest)) 0) (run (c .out) b at b (u .whole)) (unmoved (refused 4 (at + length (flat (u .whole)))) b))
     (unmoved (refused 14 0) b))
-
--- ---- payments, counted from accepted unlocks and not read off the book
-
--- a share, or a TLC by its place in the first state
-pub data Payee : Type 0 where
-  remoteShare : Payee
-  localShare : Payee
-  tlc : ℕ → Payee
-
-pub record Payment : Type 0 where
-  pub to : Payee
-  pub amount : ℕ
-
--- What unlock bytes pay, in order: a TLC its amount, a share its amount at that moment. The lists are the TLCs before any removal and
--- their places in the first state, the two numbers the shares' amounts.
-unfoldable pub payments : List (List ℕ) → List ℕ → ℕ → ℕ → List ℕ → List Payment
-payments tlcs firsts r l [] = []
-payments tlcs firsts r l (byte ∷ bytes) =
-    let onLocal = payments tlcs firsts r 0 bytes in
-    let onRemote = payments tlcs firsts 0 l bytes in
-    let onTlc = payments tlcs firsts r l bytes in
-    cond (eqb byte 255) (record { to = localShare; amount = l } ∷ onLocal)
-    (cond (eqb byte 254) (record { to = remoteShare; amount = r } ∷ onRemote)
-    (record { to = tlc (getD firsts byte 0); amount = tlcAmount (getD tlcs byte []) } ∷ onTlc))

@@ -6,7 +6,8 @@ ghost use lib.ListN.{length};
 ghost use lib.Seq.{sets};
 ghost use Rattle.fiber_bytes.specs.Bytes.{part, le, leBytes};
 
-fn wide(x: u8) -> u64
+// A byte as a number that sums of bytes fit into.
+pub fn wide(x: u8) -> u64
     ensures { λ r. ⌜ (r ≡ x) × (r < 256) ⌝ }
 {
     x as u64

@@ -1,7 +1,7 @@
--- Laws of `specs/Plan.antt`, and of what is handed out by `specs/Choice.antt`: the records of a tracked list, and runs of stores.
+-- Laws of `specs/inner/Plan.antt`, and of `specs/HandedOut.antt`: the records of a tracked list, and runs of stores.
 -- Assumes nothing.
 use Prim.Native.Nat.{ℕ, zero, suc, _+_, _-_, _*_, _/_, _≤_, _<_}
-use native.Mathlib.Nat.{zero-mul, suc-mul, mul-le-mul-right, div-mul-le-self}
+use native.Mathlib.Nat.{add-zero, zero-mul, suc-mul, mul-le-mul-right, div-mul-le-self}
 use native.Mathlib.Numerals.{add-one}
 use native.Mathlib.Omega.{arith}
 use mathlib.Core.Path.{_≡_, refl, sym, ap, subst, _∙_}
@@ -10,13 +10,15 @@ use mathlib.Core.List.{List, [], _∷_, _++_, append-assoc}
 use mathlib.Core.Logic.{_⊎_, inl, inr, ⊎-elim}
 use lib.Dec.{eqb}
 use lib.ListN.{length, getD, take, drop, set, replicate, drop-of-length-le, length-take, length-drop, length-append}
-use lib.Seq.{sets, length-sets, sets-eq, take-all, take-at, drop-at, take-set-le, drop-set-lt, length-take-le}
-use borrow.Author.Tests.{eq-eqb, ne-eqb, le-leb, lt-leb, eqb-true, eqb-false}
+use lib.Seq.{sets, length-sets, sets-eq, take-all, take-at, drop-at, take-set-le, drop-set-lt, length-take-le, drop-drop, getD-drop}
+use borrow.Author.Tests.{eq-eqb, ne-eqb, le-leb, lt-leb, eqb-true, eqb-false, lt-ltb}
 use Rattle.fiber_bytes.specs.Bytes.{part}
 use Rattle.fiber_bytes.proofs.BytesLaws.{part-length, sets-append, part-part, part-behind}
 use Rattle.fiber_types.specs.declared.tlc.Amount.{Amount}
+use Rattle.fiber_types.specs.declared.answer.Written.the-variants as written·
+use Rattle.fiber_types.specs.declared.unlock.Unlock.{Unlock}
 use Rattle.fiber_types.specs.Records.{amountAt, witnessLen, unlockBytes, wroteUnlock}
-use Rattle.fiber_types.proofs.RecordsLaws.{unlock-written, unlockBytes-length, at-least, amount-part}
+use Rattle.fiber_types.proofs.RecordsLaws.{unlock-written, unlockBytes-length, unlockBytes-byte, unlockBytes-flag, at-least, outcome-room, amount-part}
 use Rattle.fiber_blake2b.specs.Blake2b.{ckbHash}
 use Rattle.fiber_blake2b.proofs.Blake2bLaws.{ckb-length}
 use Rattle.fiber_choice.specs.declared.kinds.Side.the-variants as side·
@@ -25,23 +27,21 @@ use Rattle.fiber_choice.specs.declared.kinds.Way.the-variants as way·
 use Rattle.fiber_choice.specs.declared.kinds.Choice.{Choice}
 use Rattle.fiber_choice.specs.declared.kinds.Choice.the-variants as choice·
 use Rattle.fiber_choice.specs.declared.kinds.Plan.{Plan}
-use Rattle.fiber_witness.specs.Witness.{recordLen, records, flat, stateBytes, member}
-use Rattle.fiber_witness.specs.Update.{keep, shareLeft}
-use Rattle.fiber_choice.specs.Lent.{entries, trackedLen, trackedRecords, pairLen}
+use Rattle.fiber_witness.specs.Witness.{recordLen, records, flat, stateBytes, member, sharePlace, unlockLen, places, unlessCut, readWitness}
+use Rattle.fiber_witness.specs.Update.{keep, shareLeft, none, takeUnlocks, updated}
+use Rattle.fiber_witness.specs.inner.Marks.{Marks, noMarks}
+use Rattle.fiber_witness.specs.inner.Strided.{strided, unmarked}
+use Rattle.fiber_choice.specs.Entries.{entries, trackedLen, trackedRecords, pairLen, pairPreimage}
 use Rattle.fiber_choice.specs.declared.kinds.ChoiceAnswer.the-variants as answer·
-use Rattle.fiber_choice.specs.Choice.{Picked, newArgs, sideByte, wayBytes, unlockOf, sideTaken, takes, stateAfter, amountOf, recordSize, handedOut}
-use Rattle.fiber_choice.specs.Plan.{planOf, planAfter, planUnlock, joined, Below, Within, PairBelow, Paired}
-use Rattle.fiber_witness.proofs.WitnessLaws.{Even, even-none, even-more, flat-even, state-size}
-use Rattle.fiber_witness.proofs.UpdateLaws.{keep-cons, left-length}
-use Rattle.fiber_choice.proofs.LentLaws.{tracked-length, tracked-at, entries-length, entry-at, entry-room}
-
--- ---- parts
-
--- the part that a start and an end in two steps name
-pub part-span : (s : List ℕ) (from a b : ℕ) → take (from + a + b - from) (drop from s) ≡ part s from (a + b)
-part-span s from a b =
-    let e : from + a + b - from ≡ a + b = omega arith in
-    ap (λ (k : ℕ). take k (drop from s)) e
+use Rattle.fiber_choice.specs.HandedOut.{Picked, choiceByte, newArgs, unlockOf, takes, stateAfter, choiceAmount, recordSize, handedOut}
+use Rattle.fiber_choice.specs.inner.Plan.{planOf, planAfter, planUnlock, joined, Below, Within, PairBelow, Paired}
+use Rattle.fiber_witness.proofs.WitnessLaws.{Even, even-none, even-more, flat-even, state-size, places-nil, places-cons, member-none, cut-none, cut-passed}
+use Rattle.fiber_witness.proofs.UpdateLaws.{marks-none, left-length, share-kept, sets-part, rest-room, unlocks-none, unlocks-more, keep-cons, updated-fine}
+use Rattle.fiber_witness.proofs.StridedLaws.{strided-none, strided-more, unmarked-keep}
+use Rattle.fiber_witness.specs.declared.witness.WitnessRead.the-variants as read·
+use Rattle.fiber_witness.specs.declared.unlocks.UnlocksAnswer.the-variants as unlocks·
+use Rattle.fiber_witness.proofs.StateLaws.{Sound, read-sound, state-left}
+use Rattle.fiber_choice.proofs.EntriesLaws.{tracked-length, tracked-at, entries-length, entry-at, entry-room}
 
 -- ---- runs of stores
 
@@ -122,6 +122,48 @@ tlcs-flat h s =
     flat-even (each-tracked (recordLen h) (length s / trackedLen h) s (div-mul-le-self (length s) (trackedLen h)))
     ∙ ap (λ (k : ℕ). k * recordLen h) (tlcs-length h s)
 
+-- ---- written from the tracked list
+
+-- where nothing is settled all are kept
+keep-all : (i : ℕ) (rs : List (List ℕ)) → keep [] i rs ≡ rs
+unfolding keep member
+keep-all i [] = refl
+keep-all i (r ∷ rs) = ap (λ (l : List (List ℕ)). r ∷ l) (keep-all (i + 1) rs)
+
+-- a tracked list has its records behind 33 bytes of each entry
+strided-tracked : (r m : ℕ) (s : List ℕ) (from : ℕ) → strided r (33 + r) m s (from + 33) ≡ trackedRecords (records (33 + r) m (drop from s))
+unfolding trackedRecords records
+strided-tracked r zero s from = strided-none r (33 + r) s (from + 33)
+strided-tracked r (suc m) s from =
+    let e : from + 33 + (33 + r) ≡ from + (33 + r) + 33 = omega arith in
+    strided-more r (33 + r) m s (from + 33)
+    ∙ rw (e, strided-tracked r m s (from + (33 + r)), ← part-behind s from 33 r, ← drop-drop (33 + r) from s)
+
+module _ (h : ℕ) (s : List ℕ) where
+  -- all of them are whole
+  pub tracked-whole : 33 + length s / (98 + h) * (98 + h) + recordLen h ≤ length s + (98 + h)
+  tracked-whole = omega (arith, div-mul-le-self (length s) (98 + h))
+
+  module _ (marks : List Bool) where
+    -- those that are not marked
+    abbrev pub others : List (List ℕ)
+    others = unmarked h s 33 (98 + h) (length s / (98 + h)) marks
+
+    -- by the list of the marked places
+    others-keep : (settled : List ℕ) → Marks marks settled → others ≡ keep settled 0 (tlcs h s)
+    unfolding entries
+    others-keep settled m =
+        unmarked-keep h s 33 (98 + h) (length s / (98 + h)) marks settled m
+        ∙ ap (keep settled 0) (rw (tracked-size h) (strided-tracked (recordLen h) (length s / trackedLen h) s 0))
+
+    -- all but one
+    pub others-but : (skip : ℕ) → Marks marks (skip ∷ []) → others ≡ keep (skip ∷ []) 0 (tlcs h s)
+    others-but skip = others-keep (skip ∷ [])
+
+    -- all
+    pub others-all : marks ≡ noMarks → others ≡ tlcs h s
+    others-all e = others-keep [] (rw e marks-none) ∙ keep-all 0 (tlcs h s)
+
 -- ---- all but one
 
 module _ (k : ℕ) where
@@ -155,125 +197,6 @@ keep-small s i (r ∷ rs) = go (member i s) (keep-small s (i + 1) rs)
     go : (b : Bool) → length (flat (keep s (i + 1) rs)) ≤ length (flat rs) → length (flat (cond b (keep s (i + 1) rs) (r ∷ keep s (i + 1) rs))) ≤ length (r ++ flat rs)
     go true h = omega (arith, length-append r (flat rs))
     go false h = omega (arith, length-append r (flat rs), length-append r (flat (keep s (i + 1) rs)))
-
--- ---- writing the records of a tracked list, but for one
-
-module _ (h : ℕ) (s : List ℕ) (skip : ℕ) where
-  -- those kept from place i on
-  abbrev pub kept : ℕ → List ℕ
-  kept i = flat (keep (skip ∷ []) i (drop i (tlcs h s)))
-
-  -- The loop that writes them: to write what is left, from here, gives what the whole gives.
-  pub record Putting (out₀ : List ℕ) (at : ℕ) (out : List ℕ) (from end i : ℕ) : Type 0 where
-    pub low : i ≤ length s / (98 + h)
-    pub place : from ≡ i * (98 + h) + 33
-    pub same : length out ≡ length out₀
-    pub ends : end + length (kept i) ≡ at + length (kept 0)
-    pub writes : sets out end (kept i) ≡ sets out₀ at (kept 0)
-
-  -- before the first, all is left
-  pub putting-start : (out : List ℕ) (at : ℕ) → Putting out at out 33 at 0
-  putting-start out at = record { low = omega arith; place = omega (arith, zero-mul (98 + h)); same = refl; ends = refl; writes = refl }
-
-  module _ (out₀ : List ℕ) (at : ℕ) (out : List ℕ) (from end i : ℕ) (c : Putting out₀ at out from end i) where
-    -- no more is left than there is
-    pub putting-room : end + length (kept i) ≤ at + length (flat (tlcs h s))
-    putting-room = omega (arith, c .ends, keep-small (skip ∷ []) 0 (tlcs h s))
-
-    -- behind the last record nothing is left
-    kept-none : length s / (98 + h) ≤ i → kept i ≡ []
-    unfolding flat keep
-    kept-none g =
-        let f : length (tlcs h s) ≤ i = omega (arith, tlcs-length h s) in
-        ap (λ (l : List (List ℕ)). flat (keep (skip ∷ []) i l)) (drop-of-length-le (tlcs h s) f)
-
-    -- so all is written
-    pub putting-end : length s / (98 + h) ≤ i → (end ≡ at + length (kept 0)) × (out ≡ sets out₀ at (kept 0))
-    putting-end g = (omega (arith, c .ends, ap length (kept-none g)), rw (kept-none g) at (c .writes))
-
-    module _ (g : i < length s / (98 + h)) where
-      -- the place of the next one
-      next-place : from + (98 + h) ≡ (i + 1) * (98 + h) + 33
-      next-place = omega (arith, c .place, ap (λ (k : ℕ). k * (98 + h)) (add-one i), suc-mul i (98 + h))
-
-      -- the entry is whole
-      pub putting-from : from + recordLen h ≤ length s
-      putting-from = omega (arith, c .place, entry-room (98 + h) s i g)
-
-      -- so is the next one's place within reach
-      pub putting-next : from + (98 + h) ≤ length s + 33
-      putting-next = omega (arith, c .place, entry-room (98 + h) s i g)
-
-      -- those kept, by whether this one is
-      kept-cons : (b : Bool) → eqb i skip ≡ b
-          → kept i ≡ flat (cond b (keep (skip ∷ []) (i + 1) (drop (i + 1) (tlcs h s))) (part s from (recordLen h) ∷ keep (skip ∷ []) (i + 1) (drop (i + 1) (tlcs h s))))
-      unfolding member
-      kept-cons b e =
-          let f : i < length (tlcs h s) = omega (arith, tlcs-length h s) in
-          ap flat
-          (keep-cons (skip ∷ []) (tlcs h s) i f
-          ∙ ap (λ (t : Bool). cond (cond t true false) (keep (skip ∷ []) (i + 1) (drop (i + 1) (tlcs h s))) (getD (tlcs h s) i [] ∷ keep (skip ∷ []) (i + 1) (drop (i + 1) (tlcs h s)))) e
-          ∙ go b
-          ∙ ap (λ (r : List ℕ). cond b (keep (skip ∷ []) (i + 1) (drop (i + 1) (tlcs h s))) (r ∷ keep (skip ∷ []) (i + 1) (drop (i + 1) (tlcs h s))))
-          (tlc-at h s i g ∙ ap (λ (k : ℕ). part s k (recordLen h)) (sym (c .place))))
-        where
-          go : (t : Bool) → cond (cond t true false) (keep (skip ∷ []) (i + 1) (drop (i + 1) (tlcs h s))) (getD (tlcs h s) i [] ∷ keep (skip ∷ []) (i + 1) (drop (i + 1) (tlcs h s)))
-              ≡ cond t (keep (skip ∷ []) (i + 1) (drop (i + 1) (tlcs h s))) (getD (tlcs h s) i [] ∷ keep (skip ∷ []) (i + 1) (drop (i + 1) (tlcs h s)))
-          go true = refl
-          go false = refl
-
-      -- the one that is left out is passed
-      pub putting-gone : i ≡ skip → Putting out₀ at out (from + (98 + h)) end (i + 1)
-      putting-gone e =
-          let f : kept i ≡ kept (i + 1) = kept-cons true (eq-eqb i skip e) in
-          record { low = omega arith; place = next-place; same = c .same; ends = omega (arith, c .ends, ap length f); writes = rw f at (c .writes) }
-
-      module _ (e : i ≡ skip → ⊥) where
-        kept-more : kept i ≡ part s from (recordLen h) ++ kept (i + 1)
-        unfolding flat
-        kept-more = kept-cons false (ne-eqb i skip e)
-
-        -- by its length
-        more-length : length (kept i) ≡ recordLen h + length (kept (i + 1))
-        more-length = omega (arith, ap length kept-more, length-append (part s from (recordLen h)) (kept (i + 1)), part-length s from (recordLen h) putting-from)
-
-        -- it has room
-        pub putting-fits : end + recordLen h ≤ at + length (flat (tlcs h s))
-        putting-fits = omega (arith, putting-room, more-length)
-
-        -- another is written, and what is left goes behind it
-        pub putting-kept : (out′ : List ℕ) → out′ ≡ sets out end (part s from (recordLen h)) → Putting out₀ at out′ (from + (98 + h)) (end + recordLen h) (i + 1)
-        putting-kept out′ d = record {
-          low = omega arith;
-          place = next-place;
-          same = ap length d ∙ length-sets out end (part s from (recordLen h)) ∙ c .same;
-          ends = omega (arith, c .ends, more-length);
-          writes =
-              ap (λ (l : List ℕ). sets l (end + recordLen h) (kept (i + 1))) d
-              ∙ ap (λ (k : ℕ). sets (sets out end (part s from (recordLen h))) (end + k) (kept (i + 1))) (sym (part-length s from (recordLen h) putting-from))
-              ∙ sym (sets-append (part s from (recordLen h)) (kept (i + 1)) out end)
-              ∙ ap (sets out end) (sym kept-more)
-              ∙ c .writes;
-        }
-
--- ---- a state
-
-module _ (rs : List (List ℕ)) (remote local : List ℕ) (e : length remote ≡ 36) (f : length local ≡ 36) where
-  -- the four writes of a state are one
-  pub state-puts : (k at end : ℕ) (out o₁ o₂ o₃ : List ℕ) → k ≡ length rs → end ≡ at + 1 + length (flat rs)
-      → o₁ ≡ sets (set out at k) (at + 1) (flat rs)
-      → o₂ ≡ sets o₁ end remote
-      → o₃ ≡ sets o₂ (end + 36) local
-      → o₃ ≡ sets out at (stateBytes rs remote local)
-  unfolding stateBytes
-  state-puts k at end out o₁ o₂ o₃ ek ee e₁ e₂ e₃ =
-      let F : List ℕ = k ∷ flat rs in
-      let p : o₁ ≡ sets out at F = e₁ ∙ ap (λ (j : ℕ). sets (set out at k) j (flat rs)) (add-one at) in
-      let a : end ≡ at + length F = omega arith in
-      let b : end + 36 ≡ at + length (F ++ remote) = omega (arith, length-append F remote) in
-      sets-next out (F ++ remote) local at (end + 36) (sets-next out F remote at end p e₂ a) e₃ b
-      ∙ ap (sets out at) (append-assoc F remote local)
-      ∙ ap (λ (j : ℕ). sets out at (j ∷ (flat rs ++ (remote ++ local)))) ek
 
 -- ---- the numbers of a plan
 
@@ -316,40 +239,28 @@ module _ (rs : List (List ℕ)) (remote local : List ℕ) (p : Plan) where
       let z = state-size (keep (p .skip ∷ []) 0 rs) (shareLeft (p .remote) remote) (shareLeft (p .local) local) (left-length (p .remote) remote e) (left-length (p .local) local f) in
       (omega (arith, z, keep-small (p .skip ∷ []) 0 rs), omega (arith, z))
 
-  -- the remote share is taken, and not the local one
-  pub after-remote : (p .remote ≡ false) ⊎ (p .local ≡ false) → p .remote ≡ true
-      → stateBytes (keep (p .skip ∷ []) 0 rs) (replicate 36 0) local ≡ planAfter rs remote local p
-  unfolding planAfter shareLeft
-  after-remote g e = rw (e, other g)
-    where
-      other : (p .remote ≡ false) ⊎ (p .local ≡ false) → p .local ≡ false
-      other (inl f) = let z : _≡_ {A = ℕ} 0 1 = cc in absurd (omega arith)
-      other (inr f) = f
+module _ (h : ℕ) (s remote local : List ℕ) (p : Plan) (marks : List Bool) (m : Marks marks (p .skip ∷ [])) where
+  -- what `put_state` is asked for
+  pub after-asks : (c : ℕ) (out : List ℕ) → 73 + length (flat (tlcs h s)) ≤ length out
+      → ((p .skip < length s / (98 + h)) × (c ≡ length s / (98 + h) - 1)) ⊎ ((length s / (98 + h) ≤ p .skip) × (c ≡ length s / (98 + h)))
+      → (c ≡ length (others h s marks)) × (73 + length (flat (others h s marks)) ≤ length out)
+  after-asks c out room k =
+      rw (others-but h s marks (p .skip) m)
+      (keep-count (p .skip) _ c (tlcs h s) (sym (tlcs-length h s)) k .0, omega (arith, keep-small (p .skip ∷ []) 0 (tlcs h s)))
 
-  module _ (e : p .remote ≡ false) where
-    -- the local one is
-    pub after-local : p .local ≡ true → stateBytes (keep (p .skip ∷ []) 0 rs) remote (replicate 36 0) ≡ planAfter rs remote local p
-    unfolding planAfter shareLeft
-    after-local f = rw (e, f)
+  -- what it leaves
+  pub after-written : (n : ℕ) (out o : List ℕ)
+      → (n ≡ length (stateBytes (others h s marks) (shareLeft (p .remote) remote) (shareLeft (p .local) local)))
+      × (o ≡ sets out 0 (stateBytes (others h s marks) (shareLeft (p .remote) remote) (shareLeft (p .local) local)))
+      → (n ≡ length (planAfter (tlcs h s) remote local p)) × (o ≡ sets out 0 (planAfter (tlcs h s) remote local p))
+  unfolding planAfter
+  after-written n out o w = rw (others-but h s marks (p .skip) m) at w
 
-    -- none is
-    pub after-none : p .local ≡ false → stateBytes (keep (p .skip ∷ []) 0 rs) remote local ≡ planAfter rs remote local p
-    unfolding planAfter shareLeft
-    after-none f = rw (e, f)
-
--- S was written to out from place at on: where it ends, and what is left of the output
-abbrev pub Landed : List ℕ → List ℕ → ℕ → ℕ → List ℕ → Type 0
-Landed S out at e o = (e ≡ at + length S) × (o ≡ sets out at S)
-
--- one that is equal to what was written
-pub landed : (T S out : List ℕ) (at : ℕ) {e r : ℕ} {o o′ : List ℕ} → T ≡ S → e ≡ r → o ≡ o′ → Landed T out at r o′ → Landed S out at e o
-landed T S out at t a c w = (a ∙ w .0 ∙ ap (λ (l : List ℕ). at + length l) t, c ∙ w .1 ∙ ap (sets out at) t)
-
--- it is read back from where it stands
-pub read-back : (out S : List ℕ) (at e : ℕ) (o : List ℕ) → e ≡ at + length S → o ≡ sets out at S → at + length S ≤ length out → take (e - at) (drop at o) ≡ S
-read-back out S at e o a b r =
-    let n : e - at ≡ length S = omega arith in
-    ap (λ (l : List ℕ). take (e - at) (drop at l)) b ∙ sets-back out S at (e - at) n r
+-- what was written to the front is read back
+pub read-back : (out S : List ℕ) (n : ℕ) (o : List ℕ) → n ≡ length S → o ≡ sets out 0 S → length S ≤ length out → take (n - 0) (drop 0 o) ≡ S
+read-back out S n o a b r =
+    let e : n - 0 ≡ length S = omega arith in
+    ap (take (n - 0)) b ∙ sets-back out S 0 (n - 0) e (omega arith)
 
 -- ---- the unlock
 
@@ -423,6 +334,17 @@ pub unlock-place : (b : Bool) (at : ℕ) → ((b ≡ true) × (at ≡ 99)) ⊎ (
 unlock-place b at (inl x) = rw (x .0) (x .1)
 unlock-place b at (inr x) = rw (x .0) (x .1)
 
+-- ---- few tracked TLCs
+
+module _ (h : ℕ) (s : List ℕ) (f : length (entries (trackedLen h) s) ≤ 254) where
+  -- as many as the code counts
+  pub few-tracked : length s / (98 + h) ≤ 254
+  few-tracked = omega (arith, tracked-length (entries (trackedLen h) s), tlcs-length h s)
+
+  -- their records have fewer than 2 ^ 15 bytes
+  pub state-small : h ≤ 32 → length s / (98 + h) * recordLen h ≤ 24638
+  state-small g = omega (arith, mul-le-mul-right (recordLen h) few-tracked)
+
 -- ---- the three parts, joined
 
 module _ (h : ℕ) (args s preimages remote local : List ℕ) (p : Plan)
@@ -490,57 +412,75 @@ module _ (h : ℕ) (args s preimages remote local : List ℕ) (p : Plan)
     unlock-room = omega (arith, r, joined-size, at-least (p .flag))
 
     module _ (o₁ : List ℕ) (e₁ : o₁ ≡ sets out 0 unlocks) where
-      -- for the state behind it
-      pub after-room : at + 73 + length (flat (tlcs h s)) ≤ length o₁
+      -- for a state behind it
+      pub after-room : at + (73 + length (flat (tlcs h s))) ≤ length o₁
       after-room = omega (arith, r, joined-size, ap length e₁, length-sets out 0 unlocks)
 
-      module _ (o₂ : List ℕ) (e₂ : o₂ ≡ sets o₁ at after) where
-        -- for the other one at its place
-        pub before-room : at + 73 + length (flat (tlcs h s)) ≤ length o₂
-        before-room = omega (arith, after-room, ap length e₂, length-sets o₁ at after)
+      -- also in the part of the output that begins there
+      pub part-room : 73 + length (flat (tlcs h s)) ≤ length (take (length o₁ - at) (drop at o₁))
+      part-room = rest-room o₁ at (73 + length (flat (tlcs h s))) after-room
 
-        module _ (o₃ : List ℕ) (end : ℕ) (z : end ≡ at + length (stateBytes (keep (length s / (98 + h) ∷ []) 0 (tlcs h s)) remote local))
-            (e₃ : o₃ ≡ sets o₂ at (stateBytes (keep (length s / (98 + h) ∷ []) 0 (tlcs h s)) remote local)) where
-          -- where none is left out
-          all-kept : stateBytes (keep (length s / (98 + h) ∷ []) 0 (tlcs h s)) remote local ≡ before
-          all-kept = ap (λ (rs : List (List ℕ)). stateBytes rs remote local) (keep-past (length s / (98 + h)) 0 (tlcs h s) (inr (omega (arith, tlcs-length h s))))
+      -- the state after it was written to that part
+      module _ (y₂ : List ℕ) (e₂ : y₂ ≡ sets (take (length o₁ - at) (drop at o₁)) 0 after) where
+        abbrev o₂ : List ℕ
+        o₂ = take at o₁ ++ (y₂ ++ drop (length o₁ - at) (drop at o₁))
 
-          -- and for the new args
-          pub new-room : (end + 57 ≤ length o₃) × (end + length args ≤ length o₃)
-          new-room =
-              let q = ap length (e₃ ∙ ap (sets o₂ at) all-kept) in
-              let t = state-size (tlcs h s) remote local d f in
-              let y = ap length all-kept in (
-                omega (arith, r, joined-size, q, length-sets o₂ at before, ap length e₂, length-sets o₁ at after, ap length e₁, length-sets out 0 unlocks, z, t, y),
-                omega (arith, r, joined-size, q, length-sets o₂ at before, ap length e₂, length-sets o₁ at after, ap length e₁, length-sets out 0 unlocks, z, t, y),
-              )
+        o₂-is : o₂ ≡ sets o₁ at after
+        o₂-is = sets-part o₁ at after y₂ (omega (arith, after-room)) e₂
 
-          -- the four writes are one
-          pub joined-puts : (o₄ hash : List ℕ) → hash ≡ ckbHash after → o₄ ≡ sets o₃ end (take 36 args ++ take 20 hash ++ (1 ∷ []) ++ drop 57 args)
-              → o₄ ≡ sets out 0 (joined args (entries (trackedLen h) s) (entries pairLen preimages) remote local p)
-          unfolding joined newArgs
-          joined-puts o₄ hash y e₄ =
-              let k : at ≡ 0 + length unlocks = omega (arith, unlock-size) in
-              let t = state-size (tlcs h s) remote local d f in
-              let u : o₃ ≡ sets o₁ at before =
-              e₃
-              ∙ ap (sets o₂ at) all-kept
-              ∙ ap (λ (l : List ℕ). sets l at before) e₂
-              ∙ sets-over o₁ after before at (omega (arith, after-room, t)) (omega (arith, t, after-size (tlcs h s) remote local p d f)) in
-              let m : end ≡ 0 + length (unlocks ++ before) = omega (arith, z, ap length all-kept, length-append unlocks before, unlock-size) in
-              sets-next out (unlocks ++ before) _ 0 end (sets-next out unlocks before 0 at e₁ u k) e₄ m
-              ∙ ap (λ (x : List ℕ). sets out 0 (unlocks ++ before ++ (take 36 args ++ take 20 x ++ (1 ∷ []) ++ drop 57 args))) y
+        -- there is room for the other one
+        pub before-room : at + (73 + length (flat (tlcs h s))) ≤ length o₂
+        before-room = omega (arith, after-room, ap length o₂-is, length-sets o₁ at after)
+
+        module _ (marks : List Bool) (n : marks ≡ noMarks) where
+          -- what `put_state` is asked for
+          pub before-asks : (length s / (98 + h) ≡ length (others h s marks)) × (73 + length (flat (others h s marks)) ≤ length (take (length o₂ - at) (drop at o₂)))
+          before-asks = rw (others-all h s marks n) (sym (tlcs-length h s), rest-room o₂ at (73 + length (flat (tlcs h s))) before-room)
+
+          -- what it leaves
+          module _ (size : ℕ) (y₃ : List ℕ)
+              (w₃ : (size ≡ length (stateBytes (others h s marks) (shareLeft false remote) (shareLeft false local)))
+              × (y₃ ≡ sets (take (length o₂ - at) (drop at o₂)) 0 (stateBytes (others h s marks) (shareLeft false remote) (shareLeft false local)))) where
+            abbrev o₃ : List ℕ
+            o₃ = take at o₂ ++ (y₃ ++ drop (length o₂ - at) (drop at o₂))
+
+            -- it is the state before the unlock
+            all : (size ≡ length before) × (y₃ ≡ sets (take (length o₂ - at) (drop at o₂)) 0 before)
+            all = rw (others-all h s marks n, share-kept remote, share-kept local) at w₃
+
+            size-is : size ≡ 73 + length (flat (tlcs h s))
+            size-is = all .0 ∙ state-size (tlcs h s) remote local d f
+
+            o₃-is : o₃ ≡ sets o₂ at before
+            o₃-is = sets-part o₂ at before y₃ (omega (arith, before-room)) (all .1)
+
+            -- and for the new args
+            pub new-room : (at + size + 57 ≤ length o₃) × (at + size + length args ≤ length o₃)
+            new-room =
+                let q : length o₃ ≡ length out =
+                ap length o₃-is ∙ length-sets o₂ at before ∙ ap length o₂-is ∙ length-sets o₁ at after ∙ ap length e₁ ∙ length-sets out 0 unlocks in
+                (omega (arith, r, joined-size, q, size-is), omega (arith, r, joined-size, q, size-is))
+
+            -- whose place is small
+            pub new-place : length (entries (trackedLen h) s) ≤ 254 → h ≤ 32 → at + size ≤ 24810
+            new-place g l = omega (arith, size-is, tlcs-flat h s, state-small h s g l, w, unlock-most (p .flag))
+
+            -- the four writes are one
+            pub joined-puts : (o₄ hash : List ℕ) → hash ≡ ckbHash after → o₄ ≡ sets o₃ (at + size) (take 36 args ++ take 20 hash ++ (1 ∷ []) ++ drop 57 args)
+                → o₄ ≡ sets out 0 (joined args (entries (trackedLen h) s) (entries pairLen preimages) remote local p)
+            unfolding joined newArgs
+            joined-puts o₄ hash y e₄ =
+                let k : at ≡ 0 + length unlocks = omega (arith, unlock-size) in
+                let t = state-size (tlcs h s) remote local d f in
+                let u : o₃ ≡ sets o₁ at before =
+                o₃-is
+                ∙ ap (λ (l : List ℕ). sets l at before) o₂-is
+                ∙ sets-over o₁ after before at (omega (arith, after-room, t)) (omega (arith, t, after-size (tlcs h s) remote local p d f)) in
+                let m : at + size ≡ 0 + length (unlocks ++ before) = omega (arith, size-is, t, length-append unlocks before, unlock-size) in
+                sets-next out (unlocks ++ before) _ 0 (at + size) (sets-next out unlocks before 0 at e₁ u k) e₄ m
+                ∙ ap (λ (x : List ℕ). sets out 0 (unlocks ++ before ++ (take 36 args ++ take 20 x ++ (1 ∷ []) ++ drop 57 args))) y
 
 -- ---- a choice as a plan
-
-module _ (h : ℕ) (s : List ℕ) (f : length (entries (trackedLen h) s) ≤ 254) where
-  -- as many as the code counts
-  pub few-tracked : length s / (98 + h) ≤ 254
-  few-tracked = omega (arith, tracked-length (entries (trackedLen h) s), tlcs-length h s)
-
-  -- their records have fewer than 2 ^ 15 bytes
-  pub state-small : h ≤ 32 → length s / (98 + h) * recordLen h ≤ 24638
-  state-small g = omega (arith, mul-le-mul-right (recordLen h) few-tracked)
 
 -- of a choice among n TLCs and m pairs, its TLC is among n
 pub within-tlcs : (n m : ℕ) (c : Choice) → Within n m c → Below n c
@@ -574,31 +514,25 @@ plan-pair n preimages (choice·.Share side·.Local) b = inr refl
 plan-pair n preimages (choice·.Tlc place way·.Timeout) b = inr refl
 plan-pair n preimages (choice·.Tlc place (way·.Preimage pair)) b = inl (omega (arith, entry-room 64 preimages pair (omega (arith, entries-length 64 preimages))))
 
--- it takes one share at most
-pub plan-sides : (n : ℕ) (c : Choice) → (planOf n c .remote ≡ false) ⊎ (planOf n c .local ≡ false)
-unfolding planOf
-plan-sides n (choice·.Share side·.Remote) = inr refl
-plan-sides n (choice·.Share side·.Local) = inl refl
-plan-sides n (choice·.Tlc place way·.Timeout) = inr refl
-plan-sides n (choice·.Tlc place (way·.Preimage pair)) = inr refl
+-- the TLC that it settles has a mark
+pub plan-skip : (n : ℕ) (c : Choice) → n ≤ 254 → Below n c → planOf n c .skip ≤ 255
+unfolding planOf Below
+plan-skip n (choice·.Share side·.Remote) f b = omega arith
+plan-skip n (choice·.Share side·.Local) f b = omega arith
+plan-skip n (choice·.Tlc place way·.Timeout) f b = omega arith
+plan-skip n (choice·.Tlc place (way·.Preimage pair)) f b = omega arith
 
 -- its unlock is the choice's
 plan-unlock : (n : ℕ) (ps : List (List ℕ)) (c : Choice) → unlockOf ps c ≡ planUnlock ps (planOf n c)
-unfolding planOf planUnlock unlockOf sideByte wayBytes
+unfolding planOf planUnlock unlockOf choiceByte
 plan-unlock n ps (choice·.Share side·.Remote) = refl
 plan-unlock n ps (choice·.Share side·.Local) = refl
 plan-unlock n ps (choice·.Tlc place way·.Timeout) = refl
 plan-unlock n ps (choice·.Tlc place (way·.Preimage pair)) = refl
 
--- nothing is settled
-keep-all : (i : ℕ) (rs : List (List ℕ)) → keep [] i rs ≡ rs
-unfolding keep member
-keep-all i [] = refl
-keep-all i (r ∷ rs) = ap (λ (l : List (List ℕ)). r ∷ l) (keep-all (i + 1) rs)
-
 -- so is the state after it
 plan-after : (n : ℕ) (rs : List (List ℕ)) (remote local : List ℕ) (c : Choice) → n ≡ length rs → stateAfter rs remote local (takes c) ≡ planAfter rs remote local (planOf n c)
-unfolding planOf planAfter stateAfter takes sideTaken
+unfolding planOf planAfter stateAfter takes
 plan-after n rs remote local (choice·.Share side·.Remote) e =
     ap (λ (l : List (List ℕ)). stateBytes l (shareLeft true remote) (shareLeft false local)) (keep-all 0 rs ∙ sym (keep-past n 0 rs (inr (omega arith))))
 plan-after n rs remote local (choice·.Share side·.Local) e =
@@ -619,11 +553,12 @@ module _ (h : ℕ) (args s preimages out : List ℕ) (q : Picked) (p : Plan) (e 
 
   -- what `put_joined` wants of the plan
   pub planned : length es ≤ 254 → Below (length es) (q .choice)
-      → (p .byte ≤ 255) × (((64 * (p .pair) + 64 ≤ length preimages) ⊎ (p .flag ≡ false)) × ((p .remote ≡ false) ⊎ (p .local ≡ false)))
+      → (p .byte ≤ 255) × (((64 * (p .pair) + 64 ≤ length preimages) ⊎ (p .flag ≡ false)) × (p .skip ≤ 255))
   planned g w =
       let n : length es ≡ length s / (98 + h) = omega (arith, tracked-length es, tlcs-length h s) in
+      let b′ = rw n at w in
       rw e
-      (plan-byte (length s / (98 + h)) (q .choice) (few-tracked h s g) (rw n at w), (plan-pair (length s / (98 + h)) preimages (q .choice) b, plan-sides (length s / (98 + h)) (q .choice)))
+      (plan-byte (length s / (98 + h)) (q .choice) (few-tracked h s g) b′, (plan-pair (length s / (98 + h)) preimages (q .choice) b, plan-skip (length s / (98 + h)) (q .choice) (few-tracked h s g) b′))
 
   -- its pair is whole
   pub planned-pair : (64 * (p .pair) + 64 ≤ length preimages) ⊎ (p .flag ≡ false)
@@ -656,7 +591,7 @@ module _ (h : ℕ) (args s preimages out : List ℕ) (q : Picked) (p : Plan) (e 
 
     -- all is written
     pub handed-whole : u + (73 + length s / (98 + h) * recordLen h) + k ≤ length out
-        → (m : Amount) (l : ℕ) (out′ : List ℕ) → m ≡ amountOf (tlcs h s) (q .remote) (q .local) (q .choice) → l ≡ recordSize h (q .choice)
+        → (m : Amount) (l : ℕ) (out′ : List ℕ) → m ≡ choiceAmount (tlcs h s) (q .remote) (q .local) (q .choice) → l ≡ recordSize h (q .choice)
         → out′ ≡ sets out 0 (joined args es ps (q .remote) (q .local) p)
         → (answer·.Chosen (record {
           choice = q .choice;
@@ -680,3 +615,124 @@ module _ (h : ℕ) (args s preimages out : List ℕ) (q : Picked) (p : Plan) (e 
         let n₃ : length (newArgs args (stateAfter (tlcs h s) (q .remote) (q .local) (takes (q .choice)))) ≡ k =
         new-size h args s preimages (q .remote) (q .local) p a d f planned-pair (stateAfter (tlcs h s) (q .remote) (q .local) (takes (q .choice))) ∙ sym ek in
         (rw (whole, handed-size, t, n₁, n₂, n₃, em, el), rw (whole, handed-size, t) eo)
+
+-- no unlock makes a state longer
+pub after-small : (rs : List (List ℕ)) (remote local : List ℕ) (c : Choice) → length remote ≡ 36 → length local ≡ 36
+    → length (stateAfter rs remote local (takes c)) ≤ length (stateBytes rs remote local)
+after-small rs remote local c e f =
+    rw (plan-after (length rs) rs remote local c refl)
+    (omega (arith, state-size rs remote local e f, after-size rs remote local (planOf (length rs) c) e f))
+
+-- no unlock is shorter than one without a preimage
+pub unlock-least : (pairs : List (List ℕ)) (c : Choice) → 67 ≤ length (unlockOf pairs c)
+unfolding planUnlock
+unlock-least pairs c =
+    let p = planOf 0 c in
+    rw (plan-unlock 0 pairs c)
+    (omega (arith, unlockBytes-length (record { byte = p .byte; flag = p .flag }) (replicate 65 0) (cond (p .flag) (pairPreimage (getD pairs (p .pair) [])) [])))
+
+-- the new args are as long, whatever they hash
+pub new-lengths : (args s t : List ℕ) → length (newArgs args s) ≡ length (newArgs args t)
+unfolding newArgs
+new-lengths args s t = simp (length-append, length-take, ckb-length)
+
+-- ---- the update takes the unlock
+
+-- an unlock is whole, and begins with a byte
+pub record Whole (byte : ℕ) (u : List ℕ) : Type 0 where
+  pub size : length u ≡ witnessLen (eqb (getD u 1 0) 1)
+  pub first : getD u 0 0 ≡ byte
+
+unlock-of : (u : Unlock) (preimage : List ℕ) → length preimage ≡ witnessLen (u .flag) - 67 → Whole (u .byte) (unlockBytes u (replicate 65 0) preimage)
+unlock-of u preimage e = record {
+  size =
+      unlockBytes-length u (replicate 65 0) preimage
+      ∙ go (u .flag) e
+      ∙ ap witnessLen (sym (unlockBytes-flag u (replicate 65 0) preimage));
+  first = unlockBytes-byte u (replicate 65 0) preimage;
+}
+  where
+    go : (b : Bool) → length preimage ≡ witnessLen b - 67 → 2 + (65 + length preimage) ≡ witnessLen b
+    go true e = omega arith
+    go false e = omega arith
+
+-- one of records of k bytes
+pub even-at : {k : ℕ} {rs : List (List ℕ)} → Even k rs → (i : ℕ) → i < length rs → length (getD rs i []) ≡ k
+even-at even-none i g = absurd (omega arith)
+even-at (even-more e t) zero g = e
+even-at (even-more e t) (suc i) g = even-at t i (omega arith)
+
+pub unlock-whole : (ps : List (List ℕ)) (c : Choice) → Even pairLen ps → PairBelow (length ps) c → Whole (choiceByte c) (unlockOf ps c)
+unfolding unlockOf choiceByte PairBelow Paired
+unlock-whole ps (choice·.Share side) a b = unlock-of (record { byte = choiceByte (choice·.Share side); flag = false }) [] refl
+unlock-whole ps (choice·.Tlc place way·.Timeout) a b = unlock-of (record { byte = place; flag = false }) [] refl
+unlock-whole ps (choice·.Tlc place (way·.Preimage pair)) a b =
+    unlock-of (record { byte = place; flag = true }) (pairPreimage (getD ps pair [])) (part-length (getD ps pair []) 32 32 (omega (arith, even-at a pair b)))
+
+-- one unlock of a choice takes what the choice takes
+unlocks-choice : (n : ℕ) (w : List ℕ) (at : ℕ) (c : Choice) → n ≤ 254 → Below n c → getD w at 0 ≡ choiceByte c
+    → takeUnlocks n w none (at ∷ []) ≡ record { answer = unlocks·.Fine; taken = takes c }
+unfolding choiceByte takes Below
+unlocks-choice n w at (choice·.Share side·.Local) g b e = rw (unlocks-more, e, unlocks-none)
+unlocks-choice n w at (choice·.Share side·.Remote) g b e = rw (unlocks-more, e, unlocks-none)
+unlocks-choice n w at (choice·.Tlc place way) g b e =
+    simp (unlocks-more, unlocks-none, e, member-none, ne-eqb place 255 (λ z. omega arith), ne-eqb place 254 (λ z. omega arith), lt-ltb place n b)
+
+-- The update takes an unlock that is made of a choice, over the state that it was made for, whatever the count byte in front: it answers
+-- the length of the state after the unlock, and writes that state.
+module _ {h : ℕ} {tlcs : List (List ℕ)} {remote local : List ℕ} (ok : Sound h tlcs remote local) (few : length tlcs ≤ 254)
+    (ps : List (List ℕ)) (a : Even pairLen ps) (c : Choice) (b : Within (length tlcs) (length ps) c) (count : ℕ) where
+  abbrev u : List ℕ
+  u = unlockOf ps c
+
+  abbrev w : List ℕ
+  w = count ∷ (stateBytes tlcs remote local ++ u)
+
+  abbrev start : ℕ
+  start = 1 + length (stateBytes tlcs remote local)
+
+  u-whole : Whole (choiceByte c) u
+  u-whole = unlock-whole ps c a (within-pairs (length tlcs) (length ps) c b)
+
+  w-length : length w ≡ start + length u
+  w-length = omega (arith, length-append (stateBytes tlcs remote local) u)
+
+  -- its only unlock
+  w-byte : (i : ℕ) → getD w (start + i) 0 ≡ getD u i 0
+  w-byte i =
+      sym (getD-drop start w i 0)
+      ∙ ap (λ (s : List ℕ). getD s i 0)
+      (sym (drop-drop (length (stateBytes tlcs remote local)) 1 w) ∙ drop-at (stateBytes tlcs remote local) u (length (stateBytes tlcs remote local)) refl)
+
+  w-len : unlockLen w start ≡ length u
+  w-len = ap (λ (x : ℕ). witnessLen (eqb x 1)) (w-byte 1) ∙ sym (u-whole .size)
+
+  w-places : places w start ≡ start ∷ []
+  w-places =
+      places-cons w start (omega (arith, w-length, u-whole .size, at-least (eqb (getD u 1 0) 1)))
+      ∙ ap (λ (ps : List ℕ). start ∷ ps) (places-nil w (start + unlockLen w start) (omega (arith, w-length, w-len)))
+
+  -- it is read whole
+  w-read : readWitness h w ≡ read·.Whole (length tlcs) 1 (sharePlace h (length tlcs)) start
+  w-read =
+      read-sound ok count u
+      ∙ ap (λ (ps : List ℕ). unlessCut w ps (read·.Refused 4) (read·.Whole (length tlcs) (length ps) (sharePlace h (length tlcs)) start)) w-places
+      ∙ cut-passed w (read·.Refused 4) _ start [] (omega (arith, w-length, w-len))
+      ∙ cut-none w (read·.Refused 4) _
+
+  -- all unlocks are taken
+  w-unlocks : takeUnlocks (length tlcs) w none (places w start) ≡ record { answer = unlocks·.Fine; taken = takes c }
+  w-unlocks =
+      ap (takeUnlocks (length tlcs) w none) w-places
+      ∙ unlocks-choice (length tlcs) w start c few (within-tlcs (length tlcs) (length ps) c b) (ap (λ (i : ℕ). getD w i 0) (sym (add-zero start)) ∙ w-byte 0 ∙ u-whole .first)
+
+  pub unlock-accepted : (out : List ℕ) → length (stateAfter tlcs remote local (takes c)) ≤ length out
+      → updated h w out
+      ≡ record {
+        answer = written·.Bytes (length (stateAfter tlcs remote local (takes c)));
+        bytes = sets out 0 (stateAfter tlcs remote local (takes c));
+      }
+  unfolding stateAfter
+  unlock-accepted out g =
+      updated-fine h w out (length tlcs) 1 (sharePlace h (length tlcs)) start w-read (rw w-unlocks)
+      ∙ rw (w-unlocks, state-left ok count u (takes c)) (outcome-room (stateAfter tlcs remote local (takes c)) out g)

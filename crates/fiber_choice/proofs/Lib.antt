@@ -1,8 +1,12 @@
 -- Laws of the definitions that callers cite; the promises hold.
-pub mod LentLaws
-pub mod LaterLaws
+pub mod EntriesLaws
 pub mod HandedLaws
-pub mod FirstLaws
-pub mod InitialLaws
+pub mod FirstRecordsLaws
+pub mod RequestLaws
+pub mod PreimagesLaws
+pub mod VerdictsLaws
+pub mod WalkLaws
+pub mod SettlementsLaws
 pub mod ChoiceLaws
+pub mod ByteLaws
 pub mod PromisesLaws

@@ -1,90 +1,381 @@
--- The promises of specs/Promises.antt, each from the definitions that it speaks of.
+-- The promises of specs/Promises.antt. Where a choice is handed out, at whatever time, one step over the same TLCs and shares decides, in
+-- either settlement (Begun); what is handed out is that step's (Handed). All promises are read off these two.
 -- Assumes nothing.
-use Prim.Native.Nat.{ℕ, suc, _+_, _-_, _*_, _/_, _≤_, _<_}
-use native.Mathlib.Nat.{add-zero, div-mul-le-self}
+use Prim.Native.Nat.{ℕ, _+_, _-_, _*_, _/_, _≤_, _<_}
+use native.Mathlib.Nat.{div-mul-le-self}
 use native.Mathlib.Omega.{arith}
 use mathlib.Core.Path.{_≡_, refl, sym, ap, subst, _∙_}
-use mathlib.Core.Bool.{Bool, true, false, cond}
+use mathlib.Core.Bool.{Bool, true, false, cond, _&&_, false≢true}
 use mathlib.Core.List.{List, [], _∷_, _++_, append-assoc}
 use lib.Dec.{eqb, ltb, leb}
-use lib.ListN.{length, getD, take, drop, replicate, length-append, length-take}
-use lib.Seq.{sets, sets-eq, drop-drop, take-at, drop-at, getD-drop}
-use borrow.Author.Tests.{lt-ltb, ltb-true, le-leb, leb-true, eq-eqb, ne-eqb, eqb-true}
+use lib.ListN.{length, getD, take, drop, replicate, length-append}
+use lib.Seq.{sets, sets-eq, drop-drop, take-at, drop-at}
+use borrow.Author.Tests.{lt-ltb, ltb-true, le-leb, leb-true, eq-eqb, eqb-true}
 use Rattle.fiber_bytes.specs.Bytes.{part}
 use Rattle.fiber_bytes.proofs.BytesLaws.{part-length}
+use Rattle.fiber_bytes.proofs.CaseLaws.{by-test, by-each, by-test₂}
 use Rattle.fiber_since.specs.declared.epoch.Epoch.{Epoch}
 use Rattle.fiber_since.specs.declared.epoch.Scaled.{Scaled}
 use Rattle.fiber_since.specs.declared.epoch.Scaled.the-variants as scaled·
-use Rattle.fiber_since.specs.declared.since.Expiry.{Expiry}
-use Rattle.fiber_since.specs.declared.since.Expiry.the-variants as expiry·
-use Rattle.fiber_since.specs.Since.{absoluteExpiry}
+use Rattle.fiber_since.specs.Epoch.{scaled}
 use Rattle.fiber_types.specs.declared.answer.Written.the-variants as written·
 use Rattle.fiber_types.specs.declared.tlc.Amount.{Amount}
-use Rattle.fiber_blake2b.specs.Blake2b.{ckbHash}
-use Rattle.fiber_since.specs.Epoch.{scaled}
-use Rattle.fiber_types.specs.Records.{known, witnessLen, unlockBytes, outcome}
-use Rattle.fiber_blake2b.proofs.Blake2bLaws.{ckb-length}
-use Rattle.fiber_types.proofs.RecordsLaws.{unlockBytes-length, at-least, outcome-room, unlockBytes-byte, unlockBytes-flag}
-use Rattle.fiber_witness.specs.declared.witness.WitnessRead.{WitnessRead}
-use Rattle.fiber_witness.specs.declared.witness.WitnessRead.the-variants as read·
-use Rattle.fiber_witness.specs.declared.judge.Verdict.{Verdict}
-use Rattle.fiber_witness.specs.declared.judge.Verdict.the-variants as verdict·
+use Rattle.fiber_types.specs.Records.{validHashLen, amountAt, outcome}
+use Rattle.fiber_types.proofs.RecordsLaws.{unlockBytes-length, outcome-room, at-least}
+use Rattle.fiber_witness.specs.Unlocks.{unlocksIn}
+use Rattle.fiber_witness.specs.Witness.{recordLen, stateBytes}
+use Rattle.fiber_witness.specs.Update.{Taken, shareLeft, standing, stateLeft, Unlocked, fine, faulty, unlocked, written, updated}
+use Rattle.fiber_witness.proofs.WitnessLaws.{Even, even-records}
+use Rattle.fiber_witness.proofs.StateLaws.{Sound}
+use Rattle.fiber_witness.proofs.UnlocksLaws.{unlocks-one}
+use Rattle.fiber_witness.proofs.UpdateLaws.{left-length}
 use Rattle.fiber_choice.specs.declared.kinds.Side.the-variants as side·
 use Rattle.fiber_choice.specs.declared.kinds.Way.{Way}
 use Rattle.fiber_choice.specs.declared.kinds.Way.the-variants as way·
 use Rattle.fiber_choice.specs.declared.kinds.Choice.{Choice}
 use Rattle.fiber_choice.specs.declared.kinds.Choice.the-variants as choice·
 use Rattle.fiber_choice.specs.declared.kinds.Key.{Key}
-use Rattle.fiber_choice.specs.declared.kinds.Found.{Found}
-use Rattle.fiber_choice.specs.declared.kinds.Found.the-variants as found·
-use Rattle.fiber_choice.specs.declared.kinds.Walk.{Walk}
-use Rattle.fiber_choice.specs.declared.kinds.Walk.the-variants as walk·
-use Rattle.fiber_choice.specs.declared.kinds.Pick.{Pick}
-use Rattle.fiber_choice.specs.declared.kinds.Pick.the-variants as pick·
-use Rattle.fiber_choice.specs.declared.kinds.Handed.{Handed}
+use Rattle.fiber_choice.specs.declared.kinds.Key.the-variants as key·
+use Rattle.fiber_choice.specs.declared.kinds.Delay.{Delay}
+use Rattle.fiber_choice.specs.declared.kinds.Delay.the-variants as delay·
+use Rattle.fiber_choice.specs.declared.kinds.Stage.{Stage}
+use Rattle.fiber_choice.specs.declared.kinds.Stage.the-variants as stage·
+use Rattle.fiber_choice.specs.declared.kinds.Ready.{Ready}
+use Rattle.fiber_choice.specs.declared.kinds.Ready.the-variants as ready·
+use Rattle.fiber_choice.specs.declared.kinds.Step.{Step}
+use Rattle.fiber_choice.specs.declared.kinds.Step.the-variants as step·
+use Rattle.fiber_choice.specs.declared.kinds.Decision.{Decision}
+use Rattle.fiber_choice.specs.declared.kinds.ChoiceAnswer.{ChoiceAnswer}
 use Rattle.fiber_choice.specs.declared.kinds.ChoiceAnswer.the-variants as answer·
-use Rattle.fiber_witness.specs.Witness.{recordLen, sharePlace, unlockLen, stateBytes, places, unlessCut, readWitness}
-use Rattle.fiber_witness.specs.Update.{Taken, none, judge, keep, shareLeft, standing, stateLeft, updated}
-use Rattle.fiber_choice.specs.Lent.{same, entries, received, expiryMs, trackedLen, trackedRecord, trackedRecords, pairLen, pairPreimage}
-use Rattle.fiber_choice.specs.First.{hashOf, firstRecords, shareBytes, firstRemote, firstLocal, firstState}
-use Rattle.fiber_choice.specs.Choice.{Case, settlementTlcs, trackedTlcs, pairs, lentWell, delayOf, timeoutKind, countingPair, onward, ourShare, Around, around, recordExpiry, recordOffered, laterTimeout, laterPreimage, laterExpiry, laterStep, laterWalk, Dues, firstPreimage, firstStep, firstWalk, Picked, Chosen, turned, picked, sameLists, laterPicked, laterPick, laterState, laterVerdict, laterJudged, laterRead, later, firstPicked, firstThirds, duesBy, lengthsZero, first, sideByte, choiceByte, wayBytes, unlockOf, sideTaken, takes, stateAfter, newArgs, unsettled, ChoiceOutcome, handedOut, afterChosen, afterDelay, choiceOf}
-use Rattle.fiber_choice.specs.Plan.{Within, Below, PairBelow, Paired}
-use Rattle.fiber_witness.proofs.WitnessLaws.{places-nil, places-cons, member-none, cut-none, cut-passed, read-fine, Even, even-none, even-more, state-size}
-use Rattle.fiber_witness.proofs.StateLaws.{Sound, read-sound, state-left}
-use Rattle.fiber_choice.proofs.LaterLaws.{pick-chosen}
-use Rattle.fiber_witness.proofs.UpdateLaws.{judge-none, judge-more, left-length, updated-fine}
-use Rattle.fiber_choice.proofs.HandedLaws.{each-tracked, keep-small, within-tlcs, within-pairs}
-use Rattle.fiber_choice.proofs.LentLaws.{both-split, tracked-length, tracked-at, entries-length, entry-at, entry-room}
-use Rattle.fiber_choice.proofs.FirstLaws.{firsts-count, share-length}
-use Rattle.fiber_choice.proofs.InitialLaws.{first-chosen}
-use Rattle.fiber_choice.proofs.ChoiceLaws.{lists-length}
-use Rattle.fiber_choice.specs.Promises.{NeverAbove253, Stands, ChosenStands, StandsFirst, ChosenStandsFirst, AllLong, UnlockAccepted, Accepted, HandedAccepted, StateOfWitness, StateOfData, atTime, LaterTimeStep, Onward, waits, stays, sooner, LaterTime, LaterTimePick, FirstTime, caseAt, LaterTimeChoice}
-use Rattle.fiber_types.specs.declared.unlock.Unlock.{Unlock}
-use Rattle.fiber_bytes.proofs.CaseLaws.{by-test}
+use Rattle.fiber_choice.specs.Entries.{same, entries, trackedLen, trackedRecords, pairLen}
+use Rattle.fiber_choice.specs.Request.{Request, settlementTlcs, trackedTlcs, pairs, validRequest, delayOf}
+use Rattle.fiber_choice.specs.FirstRecords.{firstRecords, shareBytes, firstRemote, firstLocal, firstState}
+use Rattle.fiber_choice.specs.Walk.{ourShare, Verdict, passed, timeout, ready, falls, stepOf, onward, walk, orShare}
+use Rattle.fiber_choice.specs.Verdicts.{duesBy, verdicts, mayShare, walked}
+use Rattle.fiber_choice.specs.HandedOut.{Picked, choiceByte, unlockOf, takes, stateAfter, newArgs, choiceAmount, recordSize, ChoiceOutcome, handedOut}
+use Rattle.fiber_choice.specs.Settlements.{walkedBy, handStep, ifReady, laterReady, laterChoice, unsettled, laterPlace, laterState, laterOf, later, firstDelay, firstPlace, firstThirds, firstReady, first}
+use Rattle.fiber_choice.specs.Choice.{afterDelay, choiceOf, recordPart, recordOf}
+use Rattle.fiber_choice.specs.inner.Plan.{Within, Below, PairBelow, Paired}
+use Rattle.fiber_choice.specs.Promises.{Decides, NeverAbove253, tlcsLeft, tlcsBefore, ChosenStands, KeyIn, PairIn, InTheirLists, Accepted, HandedAccepted, StateOfWitness, StateOfData, LaterTimeStep, Before, Onward, waits, stays, sooner, LaterTimeWalk, atTime, LaterTimeChoice}
+use Rattle.fiber_choice.proofs.EntriesLaws.{tracked-length}
+use Rattle.fiber_choice.proofs.HandedLaws.{tracked-size, tlcs-length, tlc-at, each-tracked, after-small, unlock-least, new-lengths, unlock-whole, unlock-accepted}
+use Rattle.fiber_choice.proofs.FirstRecordsLaws.{share-length}
+use Rattle.fiber_choice.proofs.WalkLaws.{KeyBelow, StepWithin}
+use Rattle.fiber_choice.proofs.SettlementsLaws.{lists-equal, later-ready, choice-within, first-ready, first-built, first-within, standing-at, unlocked-shares}
 
--- ---- lists that are the same
+-- ---- a later time, one step
 
--- bytes
-same-equal : (a b : List ℕ) → same a b ≡ true → a ≡ b
-unfolding same
-same-equal [] [] e = refl
-same-equal [] (y ∷ b) e = let z : _≡_ {A = ℕ} 0 1 = cc in absurd (omega arith)
-same-equal (x ∷ a) [] e = let z : _≡_ {A = ℕ} 0 1 = cc in absurd (omega arith)
-same-equal (x ∷ a) (y ∷ b) e =
-    let s = both-split (eqb x y) (same a b) e in
-    ap (λ (k : ℕ). k ∷ a) (eqb-true x y (s .0)) ∙ ap (λ (l : List ℕ). y ∷ l) (same-equal a b (s .1))
+-- what was true is true
+abbrev Holds : Bool → Bool → Type 0
+Holds x y = x ≡ true → y ≡ true
 
--- lists of them
-lists-equal : (a b : List (List ℕ)) → sameLists a b ≡ true → a ≡ b
-unfolding sameLists
-lists-equal [] [] e = refl
-lists-equal [] (y ∷ b) e = let z : _≡_ {A = ℕ} 0 1 = cc in absurd (omega arith)
-lists-equal (x ∷ a) [] e = let z : _≡_ {A = ℕ} 0 1 = cc in absurd (omega arith)
-lists-equal (x ∷ a) (y ∷ b) e =
-    let s = both-split (same x y) (sameLists a b) e in
-    ap (λ (k : List ℕ). k ∷ a) (same-equal x y (s .0)) ∙ ap (λ (l : List (List ℕ)). y ∷ l) (lists-equal a b (s .1))
+by-holds : (P : Bool → Bool → Type 0) (x y : Bool) → Holds x y → P true true → P false true → P false false → P x y
+by-holds P true true f a b c = a
+by-holds P true false f a b c = absurd (false≢true (f refl))
+by-holds P false true f a b c = b
+by-holds P false false f a b c = c
 
--- ---- what is said of a pick is said of all that is handed out
+-- A step at a place, and the same step later: a choice is the same; without one no more are pending than before, if no more were, or the
+-- TLC is taken by timeout.
+abbrev Steps : ℕ → ℕ → ℕ → Step → Step → Type 0
+Steps place p p′ (step·.Pending left) (step·.Pending left′) = p′ ≤ p → left′ ≤ left
+Steps place p p′ (step·.Pending left) (step·.Chosen choice key) = choice ≡ choice·.Tlc place way·.Timeout
+Steps place p p′ (step·.Chosen choice key) s = s ≡ step·.Chosen choice key
+
+module _ (time time′ : ℕ) (t : time ≤ time′) where
+  -- what has expired stays so
+  expired : (ms : ℕ) → Holds (ltb ms time) (ltb ms time′)
+  expired ms e = lt-ltb ms time′ (omega (arith, ltb-true ms time e))
+
+  step-later : (place p p′ : ℕ) (v : Verdict) → Steps place p p′ (stepOf time place p v) (stepOf time′ place p′ v)
+  unfolding stepOf
+  step-later place p p′ (passed why) = λ g. g
+  step-later place p p′ (timeout ms key) =
+      let taken : Step = step·.Chosen (choice·.Tlc place way·.Timeout) (key·.Tlc key) in
+      by-holds (λ x y. Steps place p p′ (cond x taken (step·.Pending p)) (cond y taken (step·.Pending p′))) (ltb ms time) (ltb ms time′) (expired ms)
+      refl refl (λ g. g)
+  step-later place p p′ (ready pair key) = refl
+  step-later place p p′ (falls ms) =
+      by-holds (λ x y. p′ ≤ p → cond y (p′ - 1) p′ ≤ cond x (p - 1) p) (ltb ms time) (ltb ms time′) (expired ms)
+      (λ g. omega arith) (λ g. omega arith) (λ g. g)
+
+pub later-time-step : LaterTimeStep
+later-time-step time time′ place p p′ v choice key t e = subst (λ (s : Step). Steps place p p′ s (stepOf time′ place p′ v)) e (step-later time time′ t place p p′ v)
+
+-- ---- the walk
+
+-- a TLC that is chosen is behind a place
+abbrev Behind : ℕ → Step → Type 0
+Behind place (step·.Pending left) = Unit {0}
+Behind place (step·.Chosen choice key) = Before place choice
+
+-- an earlier TLC by timeout, whatever is chosen behind it
+sooner-than : (place : ℕ) (key : Key) (s : Step) → Behind place s → Onward s (step·.Chosen (choice·.Tlc place way·.Timeout) key)
+sooner-than place key (step·.Pending left) f = waits
+sooner-than place key (step·.Chosen choice other) f = sooner f
+
+module _ (forRemote may : Bool) where
+  -- from a place on, our share behind the last
+  abbrev rest : ℕ → ℕ → List Verdict → ℕ → Step
+  rest time place vs p = orShare forRemote may (walk time place p vs)
+
+  -- it chooses at that place or behind it
+  rest-behind : (time place : ℕ) (vs : List Verdict) (k p : ℕ) → place < k → Behind place (rest time k vs p)
+  unfolding walk onward orShare stepOf
+  rest-behind time place [] k p g = by-each (Behind place) (eqb p 0 && may) _ _ tt tt
+  rest-behind time place (v ∷ vs) k p g = go (stepOf time k p v) (one v) (λ l. rest-behind time place vs (k + 1) l (omega arith))
+    where
+      one : (v : Verdict) → Behind place (stepOf time k p v)
+      one (passed why) = tt
+      one (timeout ms key) = by-each (Behind place) (ltb ms time) _ _ g tt
+      one (ready pair key) = g
+      one (falls ms) = tt
+
+      go : (s : Step) → Behind place s → ((l : ℕ) → Behind place (rest time (k + 1) vs l)) → Behind place (orShare forRemote may (onward s (λ l. walk time (k + 1) l vs)))
+      go (step·.Pending l) f r = r l
+      go (step·.Chosen choice key) f r = f
+
+  rest-later : (time time′ : ℕ) → time ≤ time′ → (vs : List Verdict) (place p p′ : ℕ) → p′ ≤ p → Onward (rest time place vs p) (rest time′ place vs p′)
+  unfolding walk onward orShare
+  rest-later time time′ t [] place p p′ g =
+      by-holds (λ x y. Onward (cond (x && may) (ourShare forRemote) (step·.Pending p)) (cond (y && may) (ourShare forRemote) (step·.Pending p′))) (eqb p 0) (eqb p′ 0)
+      (λ e. eq-eqb p′ 0 (omega (arith, eqb-true p 0 e)))
+      (by-test₂ Onward may _ _ _ _ (λ _. stays) (λ _. waits)) waits waits
+  rest-later time time′ t (v ∷ vs) place p p′ g =
+      go (stepOf time place p v) (stepOf time′ place p′ v) (step-later time time′ t place p p′ v)
+      (λ l l′ f. rest-later time time′ t vs (place + 1) l l′ f)
+    where
+      go : (x y : Step) → Steps place p p′ x y → ((l l′ : ℕ) → l′ ≤ l → Onward (rest time (place + 1) vs l) (rest time′ (place + 1) vs l′))
+          → Onward (orShare forRemote may (onward x (λ l. walk time (place + 1) l vs))) (orShare forRemote may (onward y (λ l. walk time′ (place + 1) l vs)))
+      go (step·.Pending l) (step·.Pending l′) s r = r l l′ (s g)
+      go (step·.Pending l) (step·.Chosen choice key) s r = rw s (sooner-than place key (rest time (place + 1) vs l) (rest-behind time place vs (place + 1) l (omega arith)))
+      go (step·.Chosen choice key) y s r = rw s stays
+
+pub later-time-walk : LaterTimeWalk
+unfolding walked
+later-time-walk h forRemote time time′ tlcs ps stage ts t =
+    rest-later forRemote (mayShare stage) time time′ t (verdicts h forRemote tlcs ps stage 0 ts) 0 (length ts) (length ts) (omega arith)
+
+-- ---- the walk may begin
+
+-- the update of the witness leaves this state, or the settlement data is written so
+abbrev States : Request → Bool → List ℕ → List ℕ → Type 0
+States q true w s = (into : List ℕ) → length s ≤ length into → updated (q .h) w into ≡ record { answer = written·.Bytes (length s); bytes = sets into 0 s }
+States q false w s = s ≡ firstState (q .h) (q .forRemote) (q .settlement)
+
+-- a choice and its key, over shares
+abbrev pickedBy : List ℕ → List ℕ → (Choice → Delay) → (Choice → ℕ) → Choice → Key → Picked
+pickedBy remote local delay place choice key =
+    record { remote = remote; local = local; choice = choice; key = key; delay = delay choice; place = place choice }
+
+-- No row before the walk applies: at every time one step decides, over the same TLCs and shares, and what it chooses is handed out.
+record Begun (q : Request) (isLater : Bool) (w : List ℕ) : Type 0 where
+  remote : List ℕ
+  local : List ℕ
+  delay : Choice → Delay
+  place : Choice → ℕ
+  step : ℕ → Step
+  comes : (time : ℕ) (out : List ℕ) → choiceOf (atTime q time) isLater w out ≡ handStep (atTime q time) (pickedBy remote local delay place) out (step time)
+  within : (time : ℕ) → StepWithin (length (trackedTlcs q)) (length (settlementTlcs q)) (length (pairs q)) (step time)
+  moves : (time time′ : ℕ) → time ≤ time′ → Onward (step time) (step time′)
+  hash : validHashLen (q .h) ≡ true
+  few : length (trackedTlcs q) ≤ 254
+  tlcs : tlcsBefore q isLater w ≡ trackedRecords (trackedTlcs q)
+  remotes : length remote ≡ 36
+  locals : length local ≡ 36
+  states : States q isLater w (stateBytes (trackedRecords (trackedTlcs q)) remote local)
+  recorded : (i : ℕ) (way : Way) → i < length (tlcsBefore q isLater w)
+      → recordPart isLater (place (choice·.Tlc i way)) (recordLen (q .h)) w (q .tracked) ≡ getD (tlcsBefore q isLater w) i []
+
+-- what a valid request asks with does not depend on the time
+valid-at : (q : Request) (time : ℕ) → validRequest q ≡ true → validRequest (atTime q time) ≡ true
+unfolding validRequest
+valid-at q time e = e
+
+valid-hash : (q : Request) → validRequest q ≡ true → validHashLen (q .h) ≡ true
+unfolding validRequest
+valid-hash q v = go (validHashLen (q .h)) refl
+  where
+    go : (b : Bool) → validHashLen (q .h) ≡ b → validHashLen (q .h) ≡ true
+    go true e = e
+    go false e = absurd (false≢true (rw e at v))
+
+-- ---- in a later settlement
+
+module _ (q : Request) (w : List ℕ) (n share : ℕ) (t : Taken) where
+  -- what the witness's own unlocks leave
+  abbrev stand : List (List ℕ)
+  stand = standing (q .h) w n (t .settled)
+
+  abbrev remoteLeft : List ℕ
+  remoteLeft = shareLeft (t .remote) (part w share 36)
+
+  abbrev localLeft : List ℕ
+  localLeft = shareLeft (t .local) (part w (share + 36) 36)
+
+  -- our share, and the other one
+  abbrev ours : List ℕ
+  ours = cond (q .forRemote) localLeft remoteLeft
+
+  abbrev other : List ℕ
+  other = cond (q .forRemote) remoteLeft localLeft
+
+  module _ (v : validRequest q ≡ true) (full : Epoch) (f : delayOf (q .args) ≡ scaled·.Epoch full) (u : unlocked (q .h) w ≡ fine n share t) (r : laterReady q stand ours ≡ ready·.Yes) where
+    stand-left : tlcsBefore q true w ≡ stand
+    unfolding tlcsLeft
+    stand-left = rw u
+
+    stand-tracked : stand ≡ trackedRecords (trackedTlcs q)
+    stand-tracked = lists-equal stand _ (later-ready q stand ours r .1)
+
+    stand-few : length (trackedTlcs q) ≤ 254
+    stand-few = omega (arith, later-ready q stand ours r .0, ap length stand-tracked, tracked-length (trackedTlcs q))
+
+    later-moves : (time time′ : ℕ) → time ≤ time′ → Onward (laterChoice (atTime q time) other) (laterChoice (atTime q time′) other)
+    unfolding laterChoice
+    later-moves time time′ g =
+        by-test₂ Onward (same (take 20 other) (replicate 20 0)) _ _ _ _ (λ _. stays)
+        (λ _. later-time-walk (q .h) (q .forRemote) time time′ (settlementTlcs q) (pairs q) stage·.Later (trackedTlcs q) g)
+
+    later-states : States q true w (stateBytes (trackedRecords (trackedTlcs q)) remoteLeft localLeft)
+    unfolding updated written stateLeft
+    later-states into g =
+        rw u
+        (ap (λ (rs : List (List ℕ)). outcome true (stateBytes rs remoteLeft localLeft) into) stand-tracked
+        ∙ outcome-room (stateBytes (trackedRecords (trackedTlcs q)) remoteLeft localLeft) into g)
+
+    later-record : (i : ℕ) (way : Way) → i < length (tlcsBefore q true w)
+        → recordPart true (laterPlace (q .h) (unsettled (t .settled) 0 n) (choice·.Tlc i way)) (recordLen (q .h)) w (q .tracked) ≡ getD (tlcsBefore q true w) i []
+    unfolding recordPart laterPlace
+    later-record i way g =
+        let begins : laterPlace (q .h) (unsettled (t .settled) 0 n) (choice·.Tlc i way) ≡ 2 + getD (unsettled (t .settled) 0 n) i 0 * recordLen (q .h) = omega arith in
+        ap (λ (k : ℕ). part w k (recordLen (q .h))) begins ∙ rw stand-left (standing-at (q .h) w n (t .settled) i (rw stand-left at g))
+
+    shares-there : share + 72 ≤ length w
+    shares-there = rw u at (unlocked-shares (q .h) w)
+
+    later-begun : Begun q true w
+    unfolding choiceOf afterDelay later laterOf laterState laterReady ifReady
+    later-begun = record {
+      remote = remoteLeft;
+      local = localLeft;
+      delay = λ c. delay·.None;
+      place = laterPlace (q .h) (unsettled (t .settled) 0 n);
+      step = λ time. laterChoice (atTime q time) other;
+      comes = λ time out. rw (valid-at q time v, f, u, r);
+      within = λ time. choice-within (atTime q time) other;
+      moves = later-moves;
+      hash = valid-hash q v;
+      few = stand-few;
+      tlcs = stand-left ∙ stand-tracked;
+      remotes = left-length (t .remote) (part w share 36) (part-length w share 36 (omega (arith, shares-there)));
+      locals = left-length (t .local) (part w (share + 36) 36) (part-length w (share + 36) 36 (omega (arith, shares-there)));
+      states = later-states;
+      recorded = later-record;
+    }
+
+-- ---- in a first settlement
+
+module _ (q : Request) (w : List ℕ) (v : validRequest q ≡ true) (full : Epoch) (f : delayOf (q .args) ≡ scaled·.Epoch full)
+    (third two : Epoch) (x : scaled full 1 3 ≡ scaled·.Epoch third) (y : scaled full 2 3 ≡ scaled·.Epoch two) (r : firstReady q full ≡ ready·.Yes) where
+  abbrev stage : Stage
+  stage = stage·.First (duesBy (q .header) third two full (q .current))
+
+  built-tracked : firstRecords (q .h) (q .forRemote) (settlementTlcs q) ≡ trackedRecords (trackedTlcs q)
+  built-tracked = first-built q full r
+
+  built-few : length (trackedTlcs q) ≤ 254
+  built-few = omega (arith, first-ready q full r .few, first-ready q full r .many)
+
+  first-record : (i : ℕ) (way : Way) → i < length (tlcsBefore q false w)
+      → recordPart false (firstPlace (q .h) (choice·.Tlc i way)) (recordLen (q .h)) w (q .tracked) ≡ getD (tlcsBefore q false w) i []
+  unfolding recordPart firstPlace
+  first-record i way g =
+      rw built-tracked
+      (rw (tracked-size (q .h)) at
+      (sym (tlc-at (q .h) (q .tracked) i (omega (arith, tlcs-length (q .h) (q .tracked), ap length built-tracked)))))
+
+  -- one of two shares of 36 bytes
+  one-share : (key key′ : List ℕ) (a a′ : Amount) → length (cond (q .forRemote) (shareBytes key a) (shareBytes key′ a′)) ≡ 36
+  one-share key key′ a a′ = by-each (λ (s : List ℕ). length s ≡ 36) (q .forRemote) _ _ (share-length key a) (share-length key′ a′)
+
+  first-begun : Begun q false w
+  unfolding choiceOf afterDelay first firstThirds firstReady ifReady firstRemote firstLocal firstState
+  first-begun =
+      let d = q .settlement in
+      record {
+        remote = firstRemote (q .forRemote) d;
+        local = firstLocal (q .forRemote) d;
+        delay = λ c. delay·.Epoch (firstDelay third two full c);
+        place = firstPlace (q .h);
+        step = λ time. walkedBy (atTime q time) stage;
+        comes = λ time out. rw (valid-at q time v, f, r, x, y);
+        within = λ time. first-within (atTime q time) (duesBy (q .header) third two full (q .current)) (first-ready q full r .many);
+        moves = λ time time′. later-time-walk (q .h) (q .forRemote) time time′ (settlementTlcs q) (pairs q) stage (trackedTlcs q);
+        hash = valid-hash q v;
+        few = built-few;
+        tlcs = built-tracked;
+        remotes = one-share (d .remoteKey) (d .localKey) (d .remoteAmount) (d .localAmount);
+        locals = one-share (d .localKey) (d .remoteKey) (d .localAmount) (d .remoteAmount);
+        states = ap (λ (rs : List (List ℕ)). stateBytes rs (firstRemote (q .forRemote) d) (firstLocal (q .forRemote) d)) (sym built-tracked);
+        recorded = first-record;
+      }
+
+-- ---- where something is decided, it may
+
+-- a wait or a refusal
+abbrev Undecided : ChoiceAnswer → Type 0
+Undecided (answer·.Chosen d) = ⊥
+Undecided (answer·.Wait number place) = Unit {0}
+Undecided (answer·.Refused number place) = Unit {0}
+
+never : {A : Type 0} (d : Decision) (a : ChoiceAnswer) → Undecided a → a ≡ answer·.Chosen d → A
+never d a f e = absurd (subst Undecided e f)
+
+module _ (q : Request) (w out : List ℕ) (d : Decision) where
+  abbrev Begins : Bool → ChoiceOutcome → Type 0
+  Begins isLater o = o .answer ≡ answer·.Chosen d → Begun q isLater w
+
+  module _ (v : validRequest q ≡ true) (full : Epoch) (f : delayOf (q .args) ≡ scaled·.Epoch full) where
+    later-begins : Begins true (later q w out)
+    unfolding later laterOf laterState ifReady
+    later-begins = go (unlocked (q .h) w) refl
+      where
+        ready-by : (n share : ℕ) (t : Taken) (u : unlocked (q .h) w ≡ fine n share t) (r : Ready) (o : ChoiceOutcome)
+            → laterReady q (stand q w n share t) (ours q w n share t) ≡ r → Begins true (ifReady r out o)
+        ready-by n share t u ready·.Yes o r e = later-begun q w n share t v full f u r
+        ready-by n share t u (ready·.Wait number) o r e = never d _ tt e
+        ready-by n share t u (ready·.Refused number) o r e = never d _ tt e
+
+        go : (x : Unlocked) → unlocked (q .h) w ≡ x → Begins true (laterOf q w out x)
+        go (fine n share t) u = ready-by n share t u _ _ refl
+        go (faulty number place) u = λ e. never d _ tt e
+
+    first-begins : Begins false (first q full out)
+    unfolding first firstThirds ifReady
+    first-begins = go (firstReady q full) refl
+      where
+        thirds : firstReady q full ≡ ready·.Yes → (x y : Scaled) → scaled full 1 3 ≡ x → scaled full 2 3 ≡ y → Begins false (firstThirds q out full x y)
+        thirds r (scaled·.Epoch third) (scaled·.Epoch two) x y e = first-begun q w v full f third two x y r
+        thirds r (scaled·.Epoch third) (scaled·.Refused n p) x y e = never d _ tt e
+        thirds r (scaled·.Refused n p) (scaled·.Epoch two) x y e = never d _ tt e
+        thirds r (scaled·.Refused n p) (scaled·.Refused m k) x y e = never d _ tt e
+
+        go : (r : Ready) → firstReady q full ≡ r → Begins false (ifReady r out (firstThirds q out full (scaled full 1 3) (scaled full 2 3)))
+        go ready·.Yes r = thirds r (scaled full 1 3) (scaled full 2 3) refl refl
+        go (ready·.Wait number) r = λ e. never d _ tt e
+        go (ready·.Refused number) r = λ e. never d _ tt e
+
+  choice-begins : (isLater : Bool) → Begins isLater (choiceOf q isLater w out)
+  unfolding choiceOf afterDelay
+  choice-begins isLater = by-test (Begins isLater) (validRequest q) _ _ (λ v. go v (delayOf (q .args)) isLater refl) (λ _ e. never d _ tt e)
+    where
+      go : validRequest q ≡ true → (s : Scaled) (isLater : Bool) → delayOf (q .args) ≡ s → Begins isLater (afterDelay q isLater w out s)
+      go v (scaled·.Epoch full) true f = later-begins v full f
+      go v (scaled·.Epoch full) false f = first-begins v full f
+      go v (scaled·.Refused number place) isLater f = λ e. never d _ tt e
+
+-- ---- what is handed out
 
 -- three lists, one behind the other at the front of a fourth
 parts-of : (a b c d x : List ℕ) → x ≡ a ++ b ++ c ++ d
@@ -97,883 +388,265 @@ parts-of a b c d x e =
       (ap (take (length b)) f ∙ take-at b (c ++ d) (length b) refl, ap (take (length c)) g ∙ take-at c d (length c) refl),
     )
 
--- what is handed out of a pick, and the three parts of the output
-record Parts (args : List ℕ) (tlcs ps : List (List ℕ)) (p : Picked) (handed : Handed) (bytes : List ℕ) : Type 0 where
-  choice : handed .choice ≡ p .choice
-  unlock : part bytes 0 (handed .unlock) ≡ unlockOf ps (p .choice)
-  state : part bytes (handed .unlock) (handed .state) ≡ stateBytes tlcs (p .remote) (p .local)
-  new : part bytes (handed .unlock + handed .state) (handed .args) ≡ newArgs args (stateAfter tlcs (p .remote) (p .local) (takes (p .choice)))
-  size : handed .state ≡ length (stateBytes tlcs (p .remote) (p .local))
-
--- the answer holds one thing
-inside : (x y : Handed) → answer·.Chosen x ≡ answer·.Chosen y → x ≡ y
-inside x y e = cc
-
--- it does not turn down
-chosen-not : {A : Type 0} (number place : ℕ) (x : Handed) → answer·.Refused number place ≡ answer·.Chosen x → A
-chosen-not number place x e = let z : _≡_ {A = ℕ} 0 1 = cc in absurd (omega arith)
-
-module _ (h : ℕ) (args : List ℕ) (tracked ps : List (List ℕ)) (p : Picked) where
+module _ (q : Request) (isLater : Bool) (w : List ℕ) (c : Begun q isLater w) where
+  -- the state before an unlock, after it, and all that is handed out
   abbrev before : List ℕ
-  before = stateBytes (trackedRecords tracked) (p .remote) (p .local)
+  before = stateBytes (trackedRecords (trackedTlcs q)) (c .remote) (c .local)
 
-  abbrev behind : List ℕ
-  behind = newArgs args (stateAfter (trackedRecords tracked) (p .remote) (p .local) (takes (p .choice)))
+  abbrev after : Choice → List ℕ
+  after choice = stateAfter (trackedRecords (trackedTlcs q)) (c .remote) (c .local) (takes choice)
 
-  abbrev joined : List ℕ
-  joined = unlockOf ps (p .choice) ++ before ++ behind
+  abbrev joined : Choice → List ℕ
+  joined choice = unlockOf (pairs q) choice ++ before ++ newArgs (q .args) (after choice)
 
-  -- an answer that is handed out has them
-  handed-parts : (out : List ℕ) (handed : Handed) → handedOut h args tracked ps p out .answer ≡ answer·.Chosen handed
-      → Parts args (trackedRecords tracked) ps p handed (handedOut h args tracked ps p out .bytes)
-  unfolding handedOut
-  handed-parts out handed =
-      by-test (λ (o : ChoiceOutcome). o .answer ≡ answer·.Chosen handed → Parts args (trackedRecords tracked) ps p handed (o .bytes)) (leb (length joined) (length out)) _ _
-      (λ g e.
-      let r : 0 + length joined ≤ length out = omega (arith, leb-true (length joined) (length out) g) in
-      let q = parts-of (unlockOf ps (p .choice)) before behind (drop (0 + length joined) out) (sets out 0 joined) (sets-eq joined out 0 r) in
-      subst (λ (x : Handed). Parts args (trackedRecords tracked) ps p x (sets out 0 joined)) (inside _ handed e)
-      (record { choice = refl; unlock = q .0; state = q .1 .0; new = q .1 .1; size = refl }))
-      (λ g e. chosen-not 13 (length joined) handed e)
+  -- A decision is that of the step at the time of the request; the output holds its three parts.
+  record Handed (out : List ℕ) (d : Decision) (bytes : List ℕ) : Type 0 where
+    chosen : c .step (q .time) ≡ step·.Chosen (d .choice) (d .key)
+    amount : d .amount ≡ choiceAmount (trackedRecords (trackedTlcs q)) (c .remote) (c .local) (d .choice)
+    begins : d .place ≡ c .place (d .choice)
+    len : d .len ≡ recordSize (q .h) (d .choice)
+    room : length (joined (d .choice)) ≤ length out
+    unlock : part bytes 0 (d .unlock) ≡ unlockOf (pairs q) (d .choice)
+    state : part bytes (d .unlock) (d .state) ≡ before
+    new : part bytes (d .unlock + d .state) (d .args) ≡ newArgs (q .args) (after (d .choice))
+    size : d .state ≡ length before
 
--- of one that is not picked nothing is said
-abbrev Of : (Picked → Type 0) → Chosen → Type 0
-Of P (picked p) = P p
-Of P (turned number place) = Unit {0}
+  module _ (out : List ℕ) where
+    abbrev outcomeOf : Step → ChoiceOutcome
+    outcomeOf s = handStep q (pickedBy (c .remote) (c .local) (c .delay) (c .place)) out s
 
--- a pick that it is said of, whose parts are handed out
-record Hands (P : Picked → Type 0) (c : Case) (handed : Handed) (bytes : List ℕ) : Type 0 where
-  hash : known (c .h) ≡ true
-  p : Picked
-  says : P p
-  parts : Parts (c .args) (trackedRecords (trackedTlcs c)) (pairs c) p handed bytes
+    step-handed : (d : Decision) (s : Step) → c .step (q .time) ≡ s → outcomeOf s .answer ≡ answer·.Chosen d → Handed out d (outcomeOf s .bytes)
+    unfolding handStep handedOut
+    step-handed d (step·.Pending pending) f = λ e. never d _ tt e
+    step-handed d (step·.Chosen choice key) f =
+        by-test (λ (o : ChoiceOutcome). o .answer ≡ answer·.Chosen d → Handed out d (o .bytes)) (leb (length (joined choice)) (length out)) _ _
+        (λ g e.
+        let r : 0 + length (joined choice) ≤ length out = omega (arith, leb-true (length (joined choice)) (length out) g) in
+        let p = parts-of (unlockOf (pairs q) choice) before (newArgs (q .args) (after choice)) (drop (0 + length (joined choice)) out) (sets out 0 (joined choice)) (sets-eq (joined choice) out 0 r) in
+        subst (λ (x : Decision). Handed out x (sets out 0 (joined choice))) (inside _ d e)
+        (record { chosen = f; amount = refl; begins = refl; len = refl; room = omega arith; unlock = p .0; state = p .1 .0; new = p .1 .1; size = refl }))
+        (λ _ e. never d _ tt e)
+      where
+        -- the answer holds one thing
+        inside : (x y : Decision) → answer·.Chosen x ≡ answer·.Chosen y → x ≡ y
+        inside x y e = cc
 
-module _ (P : Picked → Type 0) (c : Case) (out : List ℕ) where
-  abbrev Told : ChoiceOutcome → Type 0
-  Told o = (handed : Handed) → o .answer ≡ answer·.Chosen handed → Hands P c handed (o .bytes)
+    handed : (d : Decision) → Decides q isLater w out d → Handed out d (choiceOf q isLater w out .bytes)
+    handed d e = rw (c .comes (q .time) out) (step-handed d (c .step (q .time)) refl (rw (c .comes (q .time) out) at e))
 
-  after-told : known (c .h) ≡ true → (x : Chosen) → Of P x → Told (afterChosen (c .h) (c .args) (trackedTlcs c) (pairs c) out x)
-  unfolding afterChosen
-  after-told k (picked p) g =
-      λ handed e. record { hash = k; p = p; says = g; parts = handed-parts (c .h) (c .args) (trackedTlcs c) (pairs c) p out handed e }
-  after-told k (turned number place) g = λ handed e. chosen-not number place handed e
+    -- at any time, a choice that has room is handed out
+    step-room : (time : ℕ) (choice : Choice) (key : Key) → c .step time ≡ step·.Chosen choice key → length (joined choice) ≤ length out
+        → (d : Decision) × (Decides (atTime q time) isLater w out d × ((d .choice ≡ choice) × (d .key ≡ key)))
+    unfolding handStep handedOut
+    step-room time choice key f g = rw (c .comes time out, f, le-leb (length (joined choice)) (length out) g) (_, (refl, (refl, refl)))
 
-  choice-told : (isLater : Bool) (w : List ℕ)
-      → (isLater ≡ true → Of P (later (around c) (c .given .localKey) (trackedTlcs c) w))
-      → (isLater ≡ false → (full : Epoch) → Of P (first c full))
-      → Told (choiceOf c isLater w out)
-  unfolding choiceOf afterDelay lentWell
-  choice-told isLater w f g =
-      by-test Told (lentWell c) _ _ (λ e. go (both-split (known (c .h)) _ e .0) (delayOf (c .args))) (λ _ handed e. chosen-not 14 0 handed e)
-    where
-      go : known (c .h) ≡ true → (s : Scaled) → Told (afterDelay c isLater w out s)
-      go k (scaled·.Epoch full) = after-told k _ (by-test (Of P) isLater _ _ f (λ e. g e full))
-      go k (scaled·.Refused number place) = λ handed e. chosen-not number place handed e
+  -- ---- what is said of a decision
 
--- what the update asks of a pick
-record Sized (c : Case) (p : Picked) : Type 0 where
-  few : length (trackedTlcs c) ≤ 254
-  within : Within (length (trackedTlcs c)) (length (pairs c)) (p .choice)
-  remote : length (p .remote) ≡ 36
-  local : length (p .local) ≡ 36
+  module _ (out : List ℕ) (d : Decision) (bytes : List ℕ) (t : Handed out d bytes) where
+    -- it is among the TLCs, its key and its pair in their lists
+    chosen-within : Within (length (trackedTlcs q)) (length (pairs q)) (d .choice) × KeyBelow (length (settlementTlcs q)) (d .key)
+    chosen-within = rw (t .chosen) at (c .within (q .time))
 
--- ---- a later settlement
+    chosen-in : KeyIn (length (settlementTlcs q)) (d .key) × PairIn (length (pairs q)) (d .choice)
+    unfolding Within PairBelow Paired KeyIn PairIn
+    chosen-in = (key-in (d .key) (chosen-within .1), pair-in (d .choice) (chosen-within .0 .1))
+      where
+        key-in : (key : Key) → KeyBelow (length (settlementTlcs q)) key → KeyIn (length (settlementTlcs q)) key
+        key-in key·.Settlement f = tt
+        key-in (key·.Tlc place) f = f
 
--- what is said of its choice
-abbrev LaterChoice : Case → List ℕ → Choice → Type 0
-LaterChoice c w (choice·.Share side) = Unit {0}
-LaterChoice c w (choice·.Tlc place way) = Stands c w place × (place ≤ 253)
+        pair-in : (choice : Choice) → PairBelow (length (pairs q)) choice → PairIn (length (pairs q)) choice
+        pair-in (choice·.Share side) f = tt
+        pair-in (choice·.Tlc place way·.Timeout) f = tt
+        pair-in (choice·.Tlc place (way·.Preimage pair)) f = f
 
--- the update of the witness leaves this state
-abbrev Leaves : ℕ → List ℕ → List ℕ → Type 0
-Leaves h w s = (into : List ℕ) → length s ≤ length into → updated h w into ≡ record { answer = written·.Bytes (length s); bytes = sets into 0 s }
-
-abbrev LaterSays : Case → List ℕ → Picked → Type 0
-LaterSays c w p = Sized c p × (LaterChoice c w (p .choice) × Leaves (c .h) w (stateBytes (trackedRecords (trackedTlcs c)) (p .remote) (p .local)))
-
-module _ (c : Case) (w : List ℕ) where
-  module _ (n k share start : ℕ) (e : readWitness (c .h) w ≡ read·.Whole n k share start) (f : judge n w none (places w start) .verdict ≡ verdict·.Fine) where
-    abbrev stand : List (List ℕ)
-    stand = standing (c .h) w n (judge n w none (places w start) .taken .settled)
-
-    abbrev remoteLeft : List ℕ
-    remoteLeft = shareLeft (judge n w none (places w start) .taken .remote) (part w share 36)
-
-    abbrev localLeft : List ℕ
-    localLeft = shareLeft (judge n w none (places w start) .taken .local) (part w (share + 36) 36)
-
-    -- they have 36 bytes
-    remote-36 : length remoteLeft ≡ 36
-    remote-36 = left-length _ (part w share 36) (part-length w share 36 (omega (arith, read-fine (c .h) w n k share start e .shares)))
-
-    local-36 : length localLeft ≡ 36
-    local-36 = left-length _ (part w (share + 36) 36) (part-length w (share + 36) 36 (omega (arith, read-fine (c .h) w n k share start e .shares)))
-
-    module _ (g : length stand ≤ 254) (s : sameLists stand (trackedRecords (trackedTlcs c)) ≡ true) where
-      -- of a choice among the tracked TLCs
-      later-says : (m : ℕ) (choice : Choice) → Within (length (trackedTlcs c)) m choice → LaterChoice c w choice
+    module _ (place : ℕ) (way : Way) (f : d .choice ≡ choice·.Tlc place way) where
+      chosen-below : place < length (tlcsBefore q isLater w)
       unfolding Within Below
-      later-says m (choice·.Share side) h = tt
-      later-says m (choice·.Tlc place way) h =
-          let l = lists-length stand (trackedRecords (trackedTlcs c)) s in
-          let b : place < length stand = omega (arith, l, tracked-length (trackedTlcs c), h .0) in (
-            record {
-              n = n;
-              k = k;
-              share = share;
-              start = start;
-              whole = e;
-              fine = f;
-              below = b;
-              tracked =
-                  sym (tracked-at (trackedTlcs c) place)
-                  ∙ ap (λ (rs : List (List ℕ)). getD rs place []) (sym (lists-equal stand (trackedRecords (trackedTlcs c)) s));
-            },
-            omega arith,
-          )
+      chosen-below =
+          let b : place < length (trackedTlcs q) = rw f at (chosen-within .0 .0) in
+          omega (arith, b, ap length (c .tlcs), tracked-length (trackedTlcs q))
 
-      -- of the shares that are left
-      later-leaves : (remote local : List ℕ) → remote ≡ remoteLeft → local ≡ localLeft → Leaves (c .h) w (stateBytes (trackedRecords (trackedTlcs c)) remote local)
-      unfolding stateLeft
-      later-leaves remote local x y into z =
-          let same : stateBytes stand remoteLeft localLeft ≡ stateBytes (trackedRecords (trackedTlcs c)) remote local =
-          ap (λ (rs : List (List ℕ)). stateBytes rs remoteLeft localLeft) (lists-equal stand (trackedRecords (trackedTlcs c)) s) ∙ rw (x, y) in
-          updated-fine (c .h) w into n k share start e f
-          ∙ ap (λ (l : List ℕ). outcome true l into) same
-          ∙ outcome-room (stateBytes (trackedRecords (trackedTlcs c)) remote local) into z
+      chosen-few : place ≤ 253
+      chosen-few = omega (arith, chosen-below, ap length (c .tlcs), tracked-length (trackedTlcs q), c .few)
 
-      -- of a pick
-      later-picks : (firsts remote local other : List ℕ) → remote ≡ remoteLeft → local ≡ localLeft → (p : Pick) → laterPick (around c) (trackedTlcs c) other ≡ p
-          → Of (LaterSays c w) (laterPicked (c .h) firsts remote local p)
-      unfolding laterPicked around
-      later-picks firsts remote local other x y (pick·.Chosen choice key) q =
-          let z = pick-chosen (around c) (trackedTlcs c) other choice key q in
-          let l = lists-length stand (trackedRecords (trackedTlcs c)) s in (
-            record { few = omega (arith, l, tracked-length (trackedTlcs c)); within = z; remote = ap length x ∙ remote-36; local = ap length y ∙ local-36 },
-            (later-says (length (pairs c)) choice z, later-leaves remote local x y),
-          )
-      later-picks firsts remote local other x y pick·.Nothing q = tt
+      -- its record and its amount
+      chosen-record : recordOf isLater (answer·.Chosen d) w (q .tracked) ≡ getD (tlcsBefore q isLater w) place []
+      unfolding recordOf recordSize
+      chosen-record = rw (t .begins, t .len, f) (c .recorded place way chosen-below)
 
-    -- of the state left
-    later-states : (ourKey firsts remote local : List ℕ) → remote ≡ remoteLeft → local ≡ localLeft
-        → Of (LaterSays c w) (laterState (around c) ourKey (trackedTlcs c) stand firsts remote local)
-    unfolding laterState around
-    later-states ourKey firsts remote local x y =
-        by-test (Of (LaterSays c w)) (leb (length stand) 254) _ _
-        (λ g. by-test (Of (LaterSays c w)) (sameLists stand (trackedRecords (trackedTlcs c))) _ _
-        (λ s. by-test (Of (LaterSays c w)) (same (take 20 (cond (c .forRemote) local remote)) (hashOf ourKey)) _ _
-        (λ _. later-picks (leb-true (length stand) 254 g) s firsts remote local (cond (c .forRemote) remote local) x y (laterPick (around c) (trackedTlcs c) (cond (c .forRemote) remote local)) refl)
-        (λ _. tt))
-        (λ _. tt))
-        (λ _. tt)
-
-  -- of the unlocks that are judged
-  later-verdicts : (ourKey : List ℕ) (n k share start : ℕ) → readWitness (c .h) w ≡ read·.Whole n k share start
-      → (v : Verdict) → judge n w none (places w start) .verdict ≡ v
-      → Of (LaterSays c w) (laterVerdict (around c) ourKey (trackedTlcs c) w n share (judge n w none (places w start) .taken) v)
-  unfolding laterVerdict around
-  later-verdicts ourKey n k share start e verdict·.Fine f =
-      later-states n k share start e f ourKey (unsettled (judge n w none (places w start) .taken .settled) 0 n) (remoteLeft n k share start e f) (localLeft n k share start e f) refl refl
-  later-verdicts ourKey n k share start e (verdict·.Refused number place) f = tt
-
-  -- of what is chosen
-  later-of : (ourKey : List ℕ) → Of (LaterSays c w) (later (around c) ourKey (trackedTlcs c) w)
-  unfolding later laterRead laterJudged around
-  later-of ourKey = go (readWitness (c .h) w) refl
-    where
-      go : (r : WitnessRead) → readWitness (c .h) w ≡ r → Of (LaterSays c w) (laterRead (around c) ourKey (trackedTlcs c) w r)
-      go (read·.Whole n k share start) e = later-verdicts ourKey n k share start e (judge n w none (places w start) .verdict) refl
-      go (read·.Refused number place) e = tt
-
--- ---- a first settlement
-
--- what is said of its choice
-abbrev FirstChoice : Case → Choice → Type 0
-FirstChoice c (choice·.Share side) = Unit {0}
-FirstChoice c (choice·.Tlc place way) = StandsFirst c place × (place ≤ 253)
-
-abbrev FirstSays : Case → Picked → Type 0
-FirstSays c p = Sized c p × (FirstChoice c (p .choice) × (stateBytes (trackedRecords (trackedTlcs c)) (p .remote) (p .local) ≡ firstState (c .h) (c .forRemote) (c .given)))
-
--- one of two shares of 36 bytes
-one-share : (b : Bool) (key key′ : List ℕ) (a a′ : Amount) → length (cond b (shareBytes key a) (shareBytes key′ a′)) ≡ 36
-one-share true key key′ a a′ = share-length key a
-one-share false key key′ a a′ = share-length key′ a′
-
-module _ (c : Case) where
-  abbrev built : List (List ℕ)
-  built = firstRecords (c .h) (c .forRemote) (settlementTlcs c)
-
-  module _ (g : length (settlementTlcs c) ≤ 254) (s : sameLists built (trackedRecords (trackedTlcs c)) ≡ true) where
-    -- of a choice among the tracked TLCs
-    first-says : (m : ℕ) (choice : Choice) → Within (length (trackedTlcs c)) m choice → FirstChoice c choice
-    unfolding Within Below
-    first-says m (choice·.Share side) h = tt
-    first-says m (choice·.Tlc place way) h =
-        let l = lists-length built (trackedRecords (trackedTlcs c)) s in
-        let b : place < length (settlementTlcs c) = omega (arith, l, tracked-length (trackedTlcs c), firsts-count (c .h) (c .forRemote) (settlementTlcs c), h .0) in (
-          record {
-            below = b;
-            tracked =
-                sym (tracked-at (trackedTlcs c) place)
-                ∙ ap (λ (rs : List (List ℕ)). getD rs place []) (sym (lists-equal built (trackedRecords (trackedTlcs c)) s));
-          },
-          omega arith,
-        )
-
-    -- of a pick
-    first-picks : (third two full : Epoch) (d : Dues) (p : Pick)
-        → p ≡ firstWalk (c .forRemote) (c .time) (settlementTlcs c) (pairs c) d 0 (length (trackedTlcs c)) (trackedTlcs c)
-        → Of (FirstSays c) (firstPicked c third two full p)
-    unfolding firstPicked firstRemote firstLocal firstState settlementTlcs
-    first-picks third two full d (pick·.Chosen choice key) q =
-        let z = first-chosen (c .forRemote) (c .time) (settlementTlcs c) (pairs c) d (trackedTlcs c) (pick·.Chosen choice key) choice key q refl in
-        let l = lists-length built (trackedRecords (trackedTlcs c)) s in
-        let m = c .given in (
-          record {
-            few = omega (arith, l, tracked-length (trackedTlcs c), firsts-count (c .h) (c .forRemote) (settlementTlcs c));
-            within = z;
-            remote = one-share (c .forRemote) (m .remoteKey) (m .localKey) (m .remoteAmount) (m .localAmount);
-            local = one-share (c .forRemote) (m .localKey) (m .remoteKey) (m .localAmount) (m .remoteAmount);
-          },
-          (
-            first-says (length (pairs c)) choice z,
-            ap (λ (rs : List (List ℕ)). stateBytes rs (firstRemote (c .forRemote) m) (firstLocal (c .forRemote) m)) (sym (lists-equal built (trackedRecords (trackedTlcs c)) s)),
-          ),
-        )
-    first-picks third two full d pick·.Nothing q = tt
-
-    -- of the thirds
-    first-thirds : (full : Epoch) (x y : Scaled) → Of (FirstSays c) (firstThirds c full x y)
-    unfolding firstThirds
-    first-thirds full (scaled·.Epoch third) (scaled·.Epoch two) = first-picks third two full (duesBy (c .header) third two full (c .current)) _ refl
-    first-thirds full (scaled·.Epoch third) (scaled·.Refused n p) = tt
-    first-thirds full (scaled·.Refused n p) (scaled·.Epoch two) = tt
-    first-thirds full (scaled·.Refused n p) (scaled·.Refused m q) = tt
-
-  -- of what is chosen
-  first-of : (full : Epoch) → Of (FirstSays c) (first c full)
-  unfolding first
-  first-of full =
-      by-test (Of (FirstSays c)) (lengthsZero (c .header) (c .current) full) _ _ (λ _. tt)
-      (λ _. by-test (Of (FirstSays c)) (leb (length (settlementTlcs c)) 254) _ _
-      (λ g. by-test (Of (FirstSays c)) (sameLists built (trackedRecords (trackedTlcs c))) _ _
-      (λ s. first-thirds (leb-true (length (settlementTlcs c)) 254 g) s full (scaled full 1 3) (scaled full 2 3))
-      (λ _. tt))
-      (λ _. tt))
+      chosen-amount : d .amount ≡ amountAt (getD (tlcsBefore q isLater w) place []) 1
+      unfolding choiceAmount
+      chosen-amount = rw (t .amount, f, c .tlcs) (from _ (omega arith))
+        where
+          from : (k : ℕ) → k ≡ 1 → amountAt (getD (trackedRecords (trackedTlcs q)) place []) k ≡ amountAt (getD (trackedRecords (trackedTlcs q)) place []) 1
+          from k e = rw e
 
 -- ---- the promises of a chosen TLC
 
--- true is not false
-no : {A : Type 0} → true ≡ false → A
-no e = let z : _≡_ {A = ℕ} 0 1 = cc in absurd (omega arith)
-
-module _ (c : Case) (w out : List ℕ) (handed : Handed) where
-  later-told : choiceOf c true w out .answer ≡ answer·.Chosen handed → Hands (LaterSays c w) c handed (choiceOf c true w out .bytes)
-  later-told = choice-told (LaterSays c w) c out true w (λ _. later-of c w (c .given .localKey)) (λ e. no e) handed
-
-  first-told : choiceOf c false w out .answer ≡ answer·.Chosen handed → Hands (FirstSays c) c handed (choiceOf c false w out .bytes)
-  first-told = choice-told (FirstSays c) c out false w (λ e. no (sym e)) (λ _ full. first-of c full) handed
-
-  module _ (place : ℕ) (way : Way) (f : handed .choice ≡ choice·.Tlc place way) where
-    later-tlc : choiceOf c true w out .answer ≡ answer·.Chosen handed → Stands c w place × (place ≤ 253)
-    later-tlc e = let t = later-told e in subst (LaterChoice c w) (sym (t .parts .choice) ∙ f) (t .says .1 .0)
-
-    first-tlc : choiceOf c false w out .answer ≡ answer·.Chosen handed → StandsFirst c place × (place ≤ 253)
-    first-tlc e = let t = first-told e in subst (FirstChoice c) (sym (t .parts .choice) ∙ f) (t .says .1 .0)
-
-pub chosen-stands : ChosenStands
-chosen-stands c w out handed place way e f = later-tlc c w out handed place way f e .0
-
-pub chosen-stands-first : ChosenStandsFirst
-chosen-stands-first c w out handed place way e f = first-tlc c w out handed place way f e .0
+decided : (q : Request) (isLater : Bool) (w out : List ℕ) (d : Decision) → Decides q isLater w out d
+    → (c : Begun q isLater w) × Handed q isLater w c out d (choiceOf q isLater w out .bytes)
+decided q isLater w out d e =
+    let c = choice-begins q w out d isLater e in
+    (c, handed q isLater w c out d e)
 
 pub never-above-253 : NeverAbove253
-never-above-253 c true w out handed place way e f = omega (arith, later-tlc c w out handed place way f e .1)
-never-above-253 c false w out handed place way e f = omega (arith, first-tlc c w out handed place way f e .1)
+unfolding choiceByte
+never-above-253 q isLater w out d place way e f =
+    let t = decided q isLater w out d e in
+    rw f (omega (arith, chosen-few q isLater w (t .0) out d _ (t .1) place way f))
 
--- a state and its length, said in another way
-leaves-as : (h : ℕ) (w s l into : List ℕ) (n : ℕ) → Leaves h w s → l ≡ s → n ≡ length s → n ≤ length into
-    → updated h w into ≡ record { answer = written·.Bytes n; bytes = sets into 0 l }
-leaves-as h w s l into n f e g r = rw (e, g) (f into (omega arith))
+pub chosen-stands : ChosenStands
+chosen-stands q isLater w out d place way e f =
+    let t = decided q isLater w out d e in (
+      chosen-below q isLater w (t .0) out d _ (t .1) place way f,
+      (chosen-record q isLater w (t .0) out d _ (t .1) place way f, chosen-amount q isLater w (t .0) out d _ (t .1) place way f),
+    )
+
+pub in-their-lists : InTheirLists
+in-their-lists q isLater w out d e =
+    let t = decided q isLater w out d e in
+    chosen-in q isLater w (t .0) out d _ (t .1)
+
+-- ---- the state before the unlock
 
 pub state-of-witness : StateOfWitness
-state-of-witness c w out handed e into g =
-    let t = later-told c w out handed e in
-    leaves-as (c .h) w _ _ into (handed .state) (t .says .1 .1) (t .parts .state) (t .parts .size) g
+state-of-witness q w out d e into g =
+    let t = decided q true w out d e in
+    go (t .0) (t .1)
+  where
+    go : (c : Begun q true w) (t : Handed q true w c out d (choiceOf q true w out .bytes))
+        → updated (q .h) w into ≡ record { answer = written·.Bytes (d .state); bytes = sets into 0 (part (choiceOf q true w out .bytes) (d .unlock) (d .state)) }
+    go c t = rw (t .state, t .size) (c .states into (omega (arith, g, t .size)))
 
 pub state-of-data : StateOfData
-state-of-data c w out handed e =
-    let t = first-told c w out handed e in
-    t .parts .state ∙ t .says .1 .1
+state-of-data q w out d e =
+    let t = decided q false w out d e in
+    t .1 .state ∙ t .0 .states
+
+-- ---- a later time, the whole choice
+
+-- the unlock is no longer
+abbrev Shorter : List (List ℕ) → Step → Step → Type 0
+Shorter ps (step·.Pending pending) s = Unit {0}
+Shorter ps (step·.Chosen x key) (step·.Pending pending) = ⊥
+Shorter ps (step·.Chosen x key) (step·.Chosen y other) = length (unlockOf ps y) ≤ length (unlockOf ps x)
+
+shorter : (ps : List (List ℕ)) (x y : Step) → Onward x y → Shorter ps x y
+unfolding unlockOf
+shorter ps x y waits = tt
+shorter ps x y stays = omega arith
+shorter ps x y (sooner {choice = choice} {place = place} b) =
+    omega (arith, unlockBytes-length (record { byte = place; flag = false }) (replicate 65 0) [], unlock-least ps choice)
+
+pub later-time-choice : LaterTimeChoice
+later-time-choice q time isLater w out d i e =
+    let t = decided q isLater w out d e in
+    go (t .0) (t .1) (t .0 .step time) refl (rw (t .1 .chosen) at (t .0 .moves (q .time) time (omega (arith, i))))
+  where
+    go : (c : Begun q isLater w) (t : Handed q isLater w c out d (choiceOf q isLater w out .bytes)) (s : Step) → c .step time ≡ s → Onward (step·.Chosen (d .choice) (d .key)) s
+        → (d′ : Decision) × (Decides (atTime q time) isLater w out d′ × Onward (step·.Chosen (d .choice) (d .key)) (step·.Chosen (d′ .choice) (d′ .key)))
+    go c t (step·.Pending pending) f m = absurd (shorter (pairs q) _ _ m)
+    go c t (step·.Chosen choice key) f m =
+        let state = before q isLater w c in
+        let now = unlockOf (pairs q) (d .choice) in
+        let next = unlockOf (pairs q) choice in
+        let new : Choice → List ℕ = λ x. newArgs (q .args) (after q isLater w c x) in
+        let g : length (next ++ state ++ new choice) ≤ length out =
+        omega (
+          arith,
+          t .room,
+          shorter (pairs q) _ _ m,
+          new-lengths (q .args) (after q isLater w c (d .choice)) (after q isLater w c choice),
+          length-append (now ++ state) (new (d .choice)),
+          length-append now state,
+          length-append (next ++ state) (new choice),
+          length-append next state,
+        ) in
+        let r = step-room q isLater w c out time choice key f g in
+        (r .0, (r .1 .0, rw (r .1 .1 .0, r .1 .1 .1) m))
 
 -- ---- the update that follows
 
--- each has so many bytes
-all-each : (k : ℕ) (rs : List (List ℕ)) → AllLong k rs → Even k rs
-all-each k [] a = even-none
-all-each k (r ∷ rs) a = even-more (a 0 (omega arith)) (all-each k rs (λ i g. a (suc i) (omega arith)))
+-- the state is sound, and the pairs are whole
+module _ (q : Request) (isLater : Bool) (w : List ℕ) (c : Begun q isLater w) where
+  begun-sound : Sound (q .h) (trackedRecords (trackedTlcs q)) (c .remote) (c .local)
+  unfolding entries
+  begun-sound = record {
+    hash = c .hash;
+    few = omega (arith, c .few, tracked-length (trackedTlcs q));
+    even = each-tracked (recordLen (q .h)) (length (q .tracked) / trackedLen (q .h)) (q .tracked) (div-mul-le-self (length (q .tracked)) (trackedLen (q .h)));
+    remote = c .remotes;
+    local = c .locals;
+  }
 
--- an unlock is whole, and begins with a byte
-record Whole (byte : ℕ) (u : List ℕ) : Type 0 where
-  size : length u ≡ witnessLen (eqb (getD u 1 0) 1)
-  first : getD u 0 0 ≡ byte
+  begun-pairs : Even pairLen (pairs q)
+  unfolding entries
+  begun-pairs = even-records pairLen (length (q .preimages) / pairLen) (q .preimages) (div-mul-le-self (length (q .preimages)) pairLen)
 
-unlock-of : (u : Unlock) (preimage : List ℕ) → length preimage ≡ witnessLen (u .flag) - 67
-    → Whole (u .byte) (unlockBytes u (replicate 65 0) preimage)
-unlock-of u preimage e = record {
-  size =
-      unlockBytes-length u (replicate 65 0) preimage
-      ∙ go (u .flag) e
-      ∙ ap witnessLen (sym (unlockBytes-flag u (replicate 65 0) preimage));
-  first = unlockBytes-byte u (replicate 65 0) preimage;
-}
-  where
-    go : (b : Bool) → length preimage ≡ witnessLen b - 67 → 2 + (65 + length preimage) ≡ witnessLen b
-    go true e = omega arith
-    go false e = omega arith
-
-unlock-whole : (ps : List (List ℕ)) (c : Choice) → AllLong pairLen ps → PairBelow (length ps) c → Whole (choiceByte c) (unlockOf ps c)
-unfolding unlockOf wayBytes choiceByte PairBelow Paired
-unlock-whole ps (choice·.Share side) a b = unlock-of (record { byte = sideByte side; flag = false }) [] refl
-unlock-whole ps (choice·.Tlc place way·.Timeout) a b = unlock-of (record { byte = place; flag = false }) [] refl
-unlock-whole ps (choice·.Tlc place (way·.Preimage pair)) a b =
-    unlock-of (record { byte = place; flag = true }) (pairPreimage (getD ps pair [])) (part-length (getD ps pair []) 32 32 (omega (arith, a pair b)))
-
--- one unlock of a choice takes what the choice takes
-judge-choice : (n : ℕ) (w : List ℕ) (at : ℕ) (c : Choice) → n ≤ 254 → Below n c → getD w at 0 ≡ choiceByte c
-    → judge n w none (at ∷ []) ≡ record { verdict = verdict·.Fine; taken = takes c }
-unfolding choiceByte sideByte takes sideTaken Below
-judge-choice n w at (choice·.Share side·.Local) g b e = rw (judge-more, e, judge-none)
-judge-choice n w at (choice·.Share side·.Remote) g b e = rw (judge-more, e, judge-none)
-judge-choice n w at (choice·.Tlc place way) g b e =
-    simp (judge-more, judge-none, e, member-none, ne-eqb place 255 (λ z. omega arith), ne-eqb place 254 (λ z. omega arith), lt-ltb place n b)
-
-module _ (h : ℕ) (tlcs : List (List ℕ)) (remote local : List ℕ) (c : Choice) (u : List ℕ) (count : ℕ)
-    (k : known h ≡ true) (a : Even (recordLen h) tlcs) (f : length tlcs ≤ 254) (r : length remote ≡ 36) (l : length local ≡ 36)
-    (o : Whole (choiceByte c) u) (b : Below (length tlcs) c) where
-  abbrev w : List ℕ
-  w = count ∷ (stateBytes tlcs remote local ++ u)
-
-  abbrev share : ℕ
-  share = sharePlace h (length tlcs)
-
-  sound : Sound h tlcs remote local
-  sound = record { hash = k; few = omega arith; even = a; remote = r; local = l }
-
-  abbrev start : ℕ
-  start = 1 + length (stateBytes tlcs remote local)
-
-  w-length : length w ≡ start + length u
-  w-length = omega (arith, length-append (stateBytes tlcs remote local) u)
-
-  -- its only unlock
-  w-unlock : drop start w ≡ u
-  w-unlock = sym (drop-drop (length (stateBytes tlcs remote local)) 1 w) ∙ drop-at (stateBytes tlcs remote local) u (length (stateBytes tlcs remote local)) refl
-
-  w-byte : (i : ℕ) → getD w (start + i) 0 ≡ getD u i 0
-  w-byte i = sym (getD-drop start w i 0) ∙ ap (λ (s : List ℕ). getD s i 0) w-unlock
-
-  w-len : unlockLen w start ≡ length u
-  w-len = ap (λ (x : ℕ). witnessLen (eqb x 1)) (w-byte 1) ∙ sym (o .size)
-
-  w-places : places w start ≡ start ∷ []
-  w-places =
-      places-cons w start (omega (arith, w-length, o .size, at-least (eqb (getD u 1 0) 1)))
-      ∙ ap (λ (ps : List ℕ). start ∷ ps) (places-nil w (start + unlockLen w start) (omega (arith, w-length, w-len)))
-
-  -- it is read whole
-  w-read : readWitness h w ≡ read·.Whole (length tlcs) 1 share start
-  w-read =
-      read-sound sound count u
-      ∙ ap (λ (ps : List ℕ). unlessCut w ps (read·.Refused 4) (read·.Whole (length tlcs) (length ps) share start)) w-places
-      ∙ cut-passed w (read·.Refused 4) _ start [] (omega (arith, w-length, w-len))
-      ∙ cut-none w (read·.Refused 4) _
-
-  -- judged fine
-  w-judged : judge (length tlcs) w none (places w start) ≡ record { verdict = verdict·.Fine; taken = takes c }
-  w-judged =
-      ap (judge (length tlcs) w none) w-places
-      ∙ judge-choice (length tlcs) w start c f b (ap (λ (i : ℕ). getD w i 0) (sym (add-zero start)) ∙ w-byte 0 ∙ o .first)
-
-  w-updated : (out : List ℕ) → length (stateAfter tlcs remote local (takes c)) ≤ length out
-      → updated h w out
-      ≡ record {
-        answer = written·.Bytes (length (stateAfter tlcs remote local (takes c)));
-        bytes = sets out 0 (stateAfter tlcs remote local (takes c));
+  begun-accepted : (out : List ℕ) (d : Decision) (bytes : List ℕ) → Handed q isLater w c out d bytes → Accepted q d bytes
+  begun-accepted out d bytes t =
+      let tlcs = trackedRecords (trackedTlcs q) in
+      let n : length (trackedTlcs q) ≡ length tlcs = sym (tracked-length (trackedTlcs q)) in
+      let b : Within (length tlcs) (length (pairs q)) (d .choice) = rw n at (chosen-within q isLater w c out d bytes t .0) in
+      record {
+        left = after q isLater w c (d .choice);
+        room = omega (arith, t .size, after-small tlcs (c .remote) (c .local) (d .choice) (c .remotes) (c .locals));
+        updates =
+            λ count into g. rw (t .state, t .unlock)
+            (unlock-accepted begun-sound (omega (arith, n, c .few)) (pairs q) begun-pairs (d .choice) b count into g);
+        hashed = t .new;
       }
-  unfolding stateAfter
-  w-updated out g =
-      updated-fine h w out (length tlcs) 1 share start w-read (rw w-judged)
-      ∙ rw (w-judged, state-left sound count u (takes c)) (outcome-room (stateAfter tlcs remote local (takes c)) out g)
-
-pub unlock-accepted : UnlockAccepted
-unlock-accepted h tlcs remote local ps c count out k a f r l p b g =
-    w-updated h tlcs remote local c (unlockOf ps c) count k (all-each (recordLen h) tlcs a) (omega (arith, f)) r l
-    (unlock-whole ps c p (within-pairs (length tlcs) (length ps) c b)) (within-tlcs (length tlcs) (length ps) c b) out g
-
--- ---- what is handed out is taken
-
--- the entries of a list are whole
-entries-long : (size : ℕ) (s : List ℕ) → AllLong size (entries size s)
-entries-long size s i g =
-    let f : i < length s / size = omega (arith, entries-length size s) in
-    ap length (entry-at size s i f) ∙ part-length s (i * size) size (entry-room size s i f)
-
--- no unlock makes a state longer
-after-small : (tlcs : List (List ℕ)) (remote local : List ℕ) (t : Taken) → length remote ≡ 36 → length local ≡ 36
-    → length (stateAfter tlcs remote local t) ≤ length (stateBytes tlcs remote local)
-unfolding stateAfter
-after-small tlcs remote local t r l =
-    omega (
-      arith,
-      state-size tlcs remote local r l,
-      state-size (keep (t .settled) 0 tlcs) (shareLeft (t .remote) remote) (shareLeft (t .local) local) (left-length (t .remote) remote r) (left-length (t .local) local l),
-      keep-small (t .settled) 0 tlcs,
-    )
-
--- a pick of the right size
-hands-accepted : (c : Case) (handed : Handed) (bytes : List ℕ) (P : Picked → Type 0) → ((p : Picked) → P p → Sized c p) → Hands P c handed bytes → Accepted c handed bytes
-unfolding trackedTlcs entries pairs
-hands-accepted c handed bytes P f t =
-    let p = t .p in
-    let z = f p (t .says) in
-    let tlcs = trackedRecords (trackedTlcs c) in
-    let m : length tlcs ≡ length (trackedTlcs c) = tracked-length (trackedTlcs c) in
-    let a : Even (recordLen (c .h)) tlcs = each-tracked (recordLen (c .h)) (length (c .tracked) / trackedLen (c .h)) (c .tracked) (div-mul-le-self (length (c .tracked)) (trackedLen (c .h))) in
-    let b : Below (length tlcs) (p .choice) = rw m (within-tlcs (length (trackedTlcs c)) (length (pairs c)) (p .choice) (z .within)) in
-    let o = unlock-whole (pairs c) (p .choice) (entries-long pairLen (c .preimages)) (within-pairs (length (trackedTlcs c)) (length (pairs c)) (p .choice) (z .within)) in
-    record {
-      left = stateAfter tlcs (p .remote) (p .local) (takes (p .choice));
-      room = omega (arith, t .parts .size, after-small tlcs (p .remote) (p .local) (takes (p .choice)) (z .remote) (z .local));
-      updates =
-          λ count into g. rw (t .parts .state, t .parts .unlock)
-          (w-updated (c .h) tlcs (p .remote) (p .local) (p .choice) (unlockOf (pairs c) (p .choice)) count (t .hash) a (omega (arith, m, z .few)) (z .remote) (z .local) o b into g);
-      hashed = t .parts .new;
-    }
 
 pub handed-accepted : HandedAccepted
-handed-accepted c true w out handed e =
-    hands-accepted c handed (choiceOf c true w out .bytes) (LaterSays c w) (λ p g. g .0) (later-told c w out handed e)
-handed-accepted c false w out handed e =
-    hands-accepted c handed (choiceOf c false w out .bytes) (FirstSays c) (λ p g. g .0) (first-told c w out handed e)
+handed-accepted q isLater w out d e =
+    let t = decided q isLater w out d e in
+    begun-accepted q isLater w (t .0) out d _ (t .1)
 
--- ---- a later time
+-- ---- what is handed out, for whoever counts what it pays
 
--- what is true stays true
-abbrev Holds : Bool → Bool → Type 0
-Holds x y = x ≡ true → y ≡ true
+-- the byte of a choice's unlock and its amount, by the parts of the state: a share's, or those of a TLC that stands
+abbrev pub Names : List (List ℕ) → List ℕ → List ℕ → Choice → ℕ → Amount → Type 0
+Names tlcs remote local (choice·.Share side·.Remote) byte a = (byte ≡ 254) × (a ≡ amountAt remote 20)
+Names tlcs remote local (choice·.Share side·.Local) byte a = (byte ≡ 255) × (a ≡ amountAt local 20)
+Names tlcs remote local (choice·.Tlc place way) byte a = (place < length tlcs) × ((byte ≡ place) × (a ≡ amountAt (getD tlcs place []) 1))
 
--- so of two tests, where one of them is the same
-holds-front : (b x y : Bool) → Holds x y → Holds (cond b x false) (cond b y false)
-holds-front true x y f = f
-holds-front false x y f = λ e. e
+-- a sound state of at most 254 TLCs, and one unlock over it
+pub record Parts (q : Request) (d : Decision) (bytes : List ℕ) : Type 0 where
+  pub tlcs : List (List ℕ)
+  pub remote : List ℕ
+  pub local : List ℕ
+  pub sound : Sound (q .h) tlcs remote local
+  pub few : length tlcs ≤ 254
+  pub state : part bytes (d .unlock) (d .state) ≡ stateBytes tlcs remote local
+  pub alone : unlocksIn (part bytes 0 (d .unlock)) ≡ record { whole = part bytes 0 (d .unlock) ∷ []; rest = [] }
+  pub names : Names tlcs remote local (d .choice) (getD (part bytes 0 (d .unlock)) 0 0) (d .amount)
 
-holds-back : (b x y : Bool) → Holds x y → Holds (cond x b false) (cond y b false)
-holds-back b true true f = λ e. e
-holds-back b true false f = no (sym (f refl))
-holds-back b false true f = λ e. no (sym e)
-holds-back b false false f = λ e. e
+names-by : (tlcs : List (List ℕ)) (remote local : List ℕ) (c : Choice) → Below (length tlcs) c → Names tlcs remote local c (choiceByte c) (choiceAmount tlcs remote local c)
+unfolding Below choiceByte choiceAmount
+names-by tlcs remote local (choice·.Share side·.Remote) b = (refl, refl)
+names-by tlcs remote local (choice·.Share side·.Local) b = (refl, refl)
+names-by tlcs remote local (choice·.Tlc place way) b = (b, (refl, refl))
 
--- what is over stays over
-holds-over : (ms time time′ : ℕ) → time ≤ time′ → Holds (ltb ms time) (ltb ms time′)
-holds-over ms time time′ h e = lt-ltb ms time′ (omega (arith, ltb-true ms time e))
-
--- none pending stays none
-holds-none : (pending pending′ : ℕ) → pending′ ≤ pending → Holds (eqb pending 0) (eqb pending′ 0)
-holds-none pending pending′ h e = eq-eqb pending′ 0 (omega (arith, eqb-true pending 0 e))
-
--- A step at a place, and the same later: where it ends it ends in the same way; where it goes on, it goes on with no more pending than
--- before, if no more were, or it ends by timeout.
-abbrev Steps : ℕ → ℕ → ℕ → Walk → Walk → Type 0
-Steps place p q (walk·.On left) (walk·.On left′) = q ≤ p → left′ ≤ left
-Steps place p q (walk·.On left) (walk·.Ended choice key) = choice ≡ choice·.Tlc place way·.Timeout
-Steps place p q (walk·.Ended choice key) (walk·.On left) = ⊥
-Steps place p q (walk·.Ended choice key) (walk·.Ended choice′ key′) = (choice′ ≡ choice) × (key′ ≡ key)
-
--- a step that ends
-steps-ended : (place p q : ℕ) (choice : Choice) (key : Key) (x y : Walk) → x ≡ walk·.Ended choice key → Steps place p q x y → y ≡ walk·.Ended choice key
-steps-ended place p q choice key x y e s = go y (subst (λ (z : Walk). Steps place p q z y) e s)
+pub handed-parts : (q : Request) (isLater : Bool) (w out : List ℕ) (d : Decision) → Decides q isLater w out d → Parts q d (choiceOf q isLater w out .bytes)
+unfolding Within
+handed-parts q isLater w out d e =
+    let t = decided q isLater w out d e in
+    go (t .0) (t .1)
   where
-    go : (y : Walk) → Steps place p q (walk·.Ended choice key) y → y ≡ walk·.Ended choice key
-    go (walk·.On left) t = absurd t
-    go (walk·.Ended choice′ key′) t = ap (λ (x : Choice). walk·.Ended x key′) (t .0) ∙ ap (walk·.Ended choice) (t .1)
-
--- both by one test
-steps-test : (place p q : ℕ) (b : Bool) (x y x′ y′ : Walk) → Steps place p q x x′ → Steps place p q y y′ → Steps place p q (cond b x y) (cond b x′ y′)
-steps-test place p q true x y x′ y′ f g = f
-steps-test place p q false x y x′ y′ f g = g
-
-module _ (place p q : ℕ) where
-  -- by timeout
-  timeout-steps : (e e′ : Bool) (f : Found) → Holds e e′ → Steps place p q (laterTimeout place p e f) (laterTimeout place q e′ f)
-  unfolding laterTimeout
-  timeout-steps true true (found·.At key) i = (refl, refl)
-  timeout-steps true false (found·.At key) i = no (sym (i refl))
-  timeout-steps false true (found·.At key) i = refl
-  timeout-steps false false (found·.At key) i = λ h. h
-  timeout-steps e e′ found·.None i = λ h. h
-
-  -- by preimage
-  preimage-steps : (e e′ : Bool) (f g : Found) → Holds e e′ → Steps place p q (laterPreimage place p e f g) (laterPreimage place q e′ f g)
-  unfolding laterPreimage
-  preimage-steps e e′ (found·.At pair) (found·.At key) i = (refl, refl)
-  preimage-steps true true found·.None (found·.At key) i = λ h. omega arith
-  preimage-steps true false found·.None (found·.At key) i = no (sym (i refl))
-  preimage-steps false true found·.None (found·.At key) i = λ h. omega arith
-  preimage-steps false false found·.None (found·.At key) i = λ h. h
-  preimage-steps e e′ (found·.At pair) found·.None i = λ h. h
-  preimage-steps e e′ found·.None found·.None i = λ h. h
-
-  -- of a later settlement
-  later-steps : (a : Around) (time : ℕ) (t : List ℕ) → a .time ≤ time → Steps place p q (laterStep a place p t) (laterStep (atTime a time) place q t)
-  unfolding laterStep laterExpiry
-  later-steps a time t h = go (absoluteExpiry (recordExpiry (a .h) (trackedRecord t)))
-    where
-      go : (x : Expiry) → Steps place p q (laterExpiry a place p t x) (laterExpiry (atTime a time) place q t x)
-      go (expiry·.At ms) =
-          steps-test place p q (timeoutKind (a .forRemote) (recordOffered (trackedRecord t))) _ _ _ _
-          (timeout-steps (ltb ms (a .time)) (ltb ms time) _ (holds-over ms (a .time) time h))
-          (preimage-steps (ltb ms (a .time)) (ltb ms time) _ _ (holds-over ms (a .time) time h))
-      go expiry·.None = λ g. g
-
-  -- by preimage, of a first one
-  first-preimage-steps : (e e′ : Bool) (f : Found) → Holds e e′ → Steps place p q (firstPreimage place p e f) (firstPreimage place q e′ f)
-  unfolding firstPreimage
-  first-preimage-steps e e′ (found·.At pair) i = (refl, refl)
-  first-preimage-steps true true found·.None i = λ h. omega arith
-  first-preimage-steps true false found·.None i = no (sym (i refl))
-  first-preimage-steps false true found·.None i = λ h. omega arith
-  first-preimage-steps false false found·.None i = λ h. h
-
-  -- of a first settlement
-  first-steps : (forRemote : Bool) (time time′ : ℕ) (ps : List (List ℕ)) (d : Dues) (s t : List ℕ) → time ≤ time′
-      → Steps place p q (firstStep forRemote time ps d place p s t) (firstStep forRemote time′ ps d place q s t)
-  unfolding firstStep laterTimeout
-  first-steps forRemote time time′ ps d s t h =
-      let i = holds-over (expiryMs s) time time′ h in
-      steps-test place p q (timeoutKind forRemote (eqb (received s) 0)) _ _ _ _
-      (timeout-steps (cond (d .twoThirds) (ltb (expiryMs s) time) false) (cond (d .twoThirds) (ltb (expiryMs s) time′) false) (found·.At place)
-      (holds-front (d .twoThirds) (ltb (expiryMs s) time) (ltb (expiryMs s) time′) i))
-      (steps-test place p q (d .third) _ _ _ _
-      (first-preimage-steps (cond (d .full) (ltb (expiryMs s) time) false) (cond (d .full) (ltb (expiryMs s) time′) false) (countingPair ps t)
-      (holds-front (d .full) (ltb (expiryMs s) time) (ltb (expiryMs s) time′) i))
-      (λ g. g))
-
-pub later-time-step : LaterTimeStep
-later-time-step a time place pending pending′ t choice key h e =
-    steps-ended place pending pending′ choice key (laterStep a place pending t) (laterStep (atTime a time) place pending′ t) e (later-steps place pending pending′ a time t h)
-
--- ---- from a place on
-
--- the TLC of a choice is at this place or behind it
-abbrev From : ℕ → Choice → Type 0
-From k (choice·.Share side) = Unit {0}
-From k (choice·.Tlc place way) = k ≤ place
-
-abbrev WalkFrom : ℕ → Walk → Type 0
-WalkFrom k (walk·.On left) = Unit {0}
-WalkFrom k (walk·.Ended choice key) = From k choice
-
-abbrev PickFrom : ℕ → Pick → Type 0
-PickFrom k (pick·.Chosen choice key) = From k choice
-PickFrom k pick·.Nothing = Unit {0}
-
--- before it, where the walk began earlier
-from-less : (k m : ℕ) (p : Pick) → k ≤ m → PickFrom m p → PickFrom k p
-from-less k m (pick·.Chosen (choice·.Share side) key) h f = tt
-from-less k m (pick·.Chosen (choice·.Tlc place way) key) h f = omega arith
-from-less k m pick·.Nothing h f = tt
-
--- of a step and what follows it
-onward-from : (k : ℕ) (w : Walk) (rest : ℕ → Pick) → WalkFrom k w → ((l : ℕ) → PickFrom (k + 1) (rest l)) → PickFrom k (onward w rest)
-unfolding onward
-onward-from k (walk·.On left) rest f g = from-less k (k + 1) (rest left) (omega arith) (g left)
-onward-from k (walk·.Ended choice key) rest f g = f
-
-module _ (place p : ℕ) where
-  timeout-from : (e : Bool) (f : Found) → WalkFrom place (laterTimeout place p e f)
-  unfolding laterTimeout
-  timeout-from true (found·.At key) = omega arith
-  timeout-from false (found·.At key) = tt
-  timeout-from e found·.None = tt
-
-  preimage-from : (e : Bool) (f g : Found) → WalkFrom place (laterPreimage place p e f g)
-  unfolding laterPreimage
-  preimage-from e (found·.At pair) (found·.At key) = omega arith
-  preimage-from e found·.None (found·.At key) = tt
-  preimage-from e (found·.At pair) found·.None = tt
-  preimage-from e found·.None found·.None = tt
-
-  later-step-from : (a : Around) (t : List ℕ) → WalkFrom place (laterStep a place p t)
-  unfolding laterStep laterExpiry
-  later-step-from a t = go (absoluteExpiry (recordExpiry (a .h) (trackedRecord t)))
-    where
-      go : (x : Expiry) → WalkFrom place (laterExpiry a place p t x)
-      go (expiry·.At ms) =
-          by-test (WalkFrom place) (timeoutKind (a .forRemote) (recordOffered (trackedRecord t))) _ _
-          (λ _. timeout-from (ltb ms (a .time)) _)
-          (λ _. preimage-from (ltb ms (a .time)) _ _)
-      go expiry·.None = tt
-
-  first-preimage-from : (e : Bool) (f : Found) → WalkFrom place (firstPreimage place p e f)
-  unfolding firstPreimage
-  first-preimage-from e (found·.At pair) = omega arith
-  first-preimage-from e found·.None = tt
-
-  first-step-from : (forRemote : Bool) (time : ℕ) (ps : List (List ℕ)) (d : Dues) (s t : List ℕ) → WalkFrom place (firstStep forRemote time ps d place p s t)
-  unfolding firstStep
-  first-step-from forRemote time ps d s t =
-      by-test (WalkFrom place) (timeoutKind forRemote (eqb (received s) 0)) _ _
-      (λ _. by-test (WalkFrom place) (cond (d .twoThirds) (ltb (expiryMs s) time) false) _ _ (λ _. omega arith) (λ _. tt))
-      (λ _. by-test (WalkFrom place) (d .third) _ _ (λ _. first-preimage-from (cond (d .full) (ltb (expiryMs s) time) false) (countingPair ps t)) (λ _. tt))
-
-later-from : (a : Around) (ts : List (List ℕ)) (place pending : ℕ) → PickFrom place (laterWalk a place pending ts)
-unfolding laterWalk
-later-from a [] place pending = by-test (PickFrom place) (eqb pending 0) _ _ (λ _. tt) (λ _. tt)
-later-from a (t ∷ ts) place pending =
-    onward-from place (laterStep a place pending t) (λ p. laterWalk a (place + 1) p ts) (later-step-from place pending a t) (λ l. later-from a ts (place + 1) l)
-
-first-from : (forRemote : Bool) (time : ℕ) (tlcs ps : List (List ℕ)) (d : Dues) (ts : List (List ℕ)) (place pending : ℕ)
-    → PickFrom place (firstWalk forRemote time tlcs ps d place pending ts)
-unfolding firstWalk
-first-from forRemote time tlcs ps d [] place pending = by-test (PickFrom place) (cond (eqb pending 0) (d .full) false) _ _ (λ _. tt) (λ _. tt)
-first-from forRemote time tlcs ps d (t ∷ ts) place pending =
-    onward-from place (firstStep forRemote time ps d place pending (getD tlcs place []) t) (λ p. firstWalk forRemote time tlcs ps d (place + 1) p ts)
-    (first-step-from place pending forRemote time ps d (getD tlcs place []) t)
-    (λ l. first-from forRemote time tlcs ps d ts (place + 1) l)
-
--- ---- the walks
-
--- an earlier TLC by timeout, whatever is picked behind it
-sooner-than : (place : ℕ) (choice : Choice) (key : Key) (p : Pick) → choice ≡ choice·.Tlc place way·.Timeout → PickFrom (place + 1) p → Onward p (pick·.Chosen choice key)
-sooner-than place choice key (pick·.Chosen (choice·.Share side) other) e f = rw e (sooner tt)
-sooner-than place choice key (pick·.Chosen (choice·.Tlc chosen way) other) e f = let b : place < chosen = omega arith in rw e (sooner b)
-sooner-than place choice key pick·.Nothing e f = waits
-
--- a step, and what follows it
-onward-time : (place p q : ℕ) (x y : Walk) (rest rest′ : ℕ → Pick) → q ≤ p → Steps place p q x y
-    → ((l l′ : ℕ) → l′ ≤ l → Onward (rest l) (rest′ l′))
-    → ((l : ℕ) → PickFrom (place + 1) (rest l))
-    → Onward (onward x rest) (onward y rest′)
-unfolding onward
-onward-time place p q (walk·.On left) (walk·.On left′) rest rest′ h s f g = f left left′ (s h)
-onward-time place p q (walk·.On left) (walk·.Ended choice key) rest rest′ h s f g = sooner-than place choice key (rest left) s (g left)
-onward-time place p q (walk·.Ended choice key) (walk·.On left) rest rest′ h s f g = absurd s
-onward-time place p q (walk·.Ended choice key) (walk·.Ended choice′ key′) rest rest′ h s f g = rw (s .0, s .1) stays
-
--- our share, or a wait
-ends-time : (forRemote x y : Bool) → Holds x y → Onward (cond x (ourShare forRemote) pick·.Nothing) (cond y (ourShare forRemote) pick·.Nothing)
-ends-time forRemote true true i = stays
-ends-time forRemote true false i = no (sym (i refl))
-ends-time forRemote false y i = waits
-
-pub later-time : LaterTime
-unfolding laterWalk
-later-time a time [] place pending pending′ h g = ends-time (a .forRemote) (eqb pending 0) (eqb pending′ 0) (holds-none pending pending′ g)
-later-time a time (t ∷ ts) place pending pending′ h g =
-    onward-time place pending pending′ (laterStep a place pending t) (laterStep (atTime a time) place pending′ t)
-    (λ p. laterWalk a (place + 1) p ts) (λ p. laterWalk (atTime a time) (place + 1) p ts)
-    g (later-steps place pending pending′ a time t h)
-    (λ l l′ f. later-time a time ts (place + 1) l l′ h f)
-    (λ l. later-from a ts (place + 1) l)
-
-pub later-time-pick : LaterTimePick
-unfolding laterPick
-later-time-pick a time tracked other h = go (same (take 20 other) (replicate 20 0))
-  where
-    go : (b : Bool)
-        → Onward (cond b (ourShare (a .forRemote)) (laterWalk a 0 (length tracked) tracked))
-        (cond b (ourShare (a .forRemote)) (laterWalk (atTime a time) 0 (length tracked) tracked))
-    go true = stays
-    go false = later-time a time tracked 0 (length tracked) (length tracked) h (omega arith)
-
-pub first-time : FirstTime
-unfolding firstWalk
-first-time forRemote time time′ tlcs ps d [] place pending pending′ h g =
-    ends-time forRemote (cond (eqb pending 0) (d .full) false) (cond (eqb pending′ 0) (d .full) false)
-    (holds-back (d .full) (eqb pending 0) (eqb pending′ 0) (holds-none pending pending′ g))
-first-time forRemote time time′ tlcs ps d (t ∷ ts) place pending pending′ h g =
-    onward-time place pending pending′ (firstStep forRemote time ps d place pending (getD tlcs place []) t) (firstStep forRemote time′ ps d place pending′ (getD tlcs place []) t)
-    (λ p. firstWalk forRemote time tlcs ps d (place + 1) p ts) (λ p. firstWalk forRemote time′ tlcs ps d (place + 1) p ts)
-    g (first-steps place pending pending′ forRemote time time′ ps d (getD tlcs place []) t h)
-    (λ l l′ f. first-time forRemote time time′ tlcs ps d ts (place + 1) l l′ h f)
-    (λ l. first-from forRemote time tlcs ps d ts (place + 1) l)
-
--- ---- the whole choice
-
--- a claim of two things that go by one test
-by-both : {A : Type 0} (P : A → A → Type 0) (b : Bool) (x y x′ y′ : A) → P x x′ → P y y′ → P (cond b x y) (cond b x′ y′)
-by-both P true x y x′ y′ f g = f
-by-both P false x y x′ y′ f g = g
-
--- what is picked now, and what later, from the same shares
-abbrev Moves : Chosen → Chosen → Type 0
-Moves (turned number place) y = Unit {0}
-Moves (picked p) (turned number place) = ⊥
-Moves (picked p) (picked q) = (q .remote ≡ p .remote) × ((q .local ≡ p .local) × Onward (pick·.Chosen (p .choice) (p .key)) (pick·.Chosen (q .choice) (q .key)))
-
--- of a later settlement
-later-picked-moves : (h : ℕ) (firsts remote local : List ℕ) (x y : Pick) → Onward x y → Moves (laterPicked h firsts remote local x) (laterPicked h firsts remote local y)
-unfolding laterPicked
-later-picked-moves h firsts remote local x y waits = tt
-later-picked-moves h firsts remote local x y stays = (refl, (refl, stays))
-later-picked-moves h firsts remote local x y (sooner b) = (refl, (refl, sooner b))
-
-module _ (a : Around) (time : ℕ) (i : a .time ≤ time) (ourKey : List ℕ) (tracked : List (List ℕ)) (w : List ℕ) where
-  later-state-moves : (tlcs : List (List ℕ)) (firsts remote local : List ℕ)
-      → Moves (laterState a ourKey tracked tlcs firsts remote local) (laterState (atTime a time) ourKey tracked tlcs firsts remote local)
-  unfolding laterState
-  later-state-moves tlcs firsts remote local =
-      by-both Moves (leb (length tlcs) 254) _ _ _ _
-      (by-both Moves (sameLists tlcs (trackedRecords tracked)) _ _ _ _
-      (by-both Moves (same (take 20 (cond (a .forRemote) local remote)) (hashOf ourKey)) _ _ _ _
-      (later-picked-moves (a .h) firsts remote local _ _ (later-time-pick a time tracked (cond (a .forRemote) remote local) i))
-      tt)
-      tt)
-      tt
-
-  later-verdict-moves : (n share : ℕ) (t : Taken) (v : Verdict) → Moves (laterVerdict a ourKey tracked w n share t v) (laterVerdict (atTime a time) ourKey tracked w n share t v)
-  unfolding laterVerdict
-  later-verdict-moves n share t verdict·.Fine = later-state-moves _ _ _ _
-  later-verdict-moves n share t (verdict·.Refused number place) = tt
-
-  later-moves : Moves (later a ourKey tracked w) (later (atTime a time) ourKey tracked w)
-  unfolding later laterRead laterJudged
-  later-moves = go (readWitness (a .h) w)
-    where
-      go : (r : WitnessRead) → Moves (laterRead a ourKey tracked w r) (laterRead (atTime a time) ourKey tracked w r)
-      go (read·.Whole n k share start) = later-verdict-moves n share (judge n w none (places w start) .taken) (judge n w none (places w start) .verdict)
-      go (read·.Refused number place) = tt
-
--- of a first one
-module _ (c : Case) (time : ℕ) (i : c .time ≤ time) where
-  first-picked-moves : (third two full : Epoch) (x y : Pick) → Onward x y → Moves (firstPicked c third two full x) (firstPicked (caseAt c time) third two full y)
-  unfolding firstPicked
-  first-picked-moves third two full x y waits = tt
-  first-picked-moves third two full x y stays = (refl, (refl, stays))
-  first-picked-moves third two full x y (sooner b) = (refl, (refl, sooner b))
-
-  first-thirds-moves : (full : Epoch) (x y : Scaled) → Moves (firstThirds c full x y) (firstThirds (caseAt c time) full x y)
-  unfolding firstThirds settlementTlcs trackedTlcs pairs
-  first-thirds-moves full (scaled·.Epoch third) (scaled·.Epoch two) =
-      first-picked-moves third two full _ _
-      (first-time (c .forRemote) (c .time) time (settlementTlcs c) (pairs c) (duesBy (c .header) third two full (c .current)) (trackedTlcs c) 0 (length (trackedTlcs c)) (length (trackedTlcs c)) i (omega arith))
-  first-thirds-moves full (scaled·.Epoch third) (scaled·.Refused n p) = tt
-  first-thirds-moves full (scaled·.Refused n p) (scaled·.Epoch two) = tt
-  first-thirds-moves full (scaled·.Refused n p) (scaled·.Refused m q) = tt
-
-  first-moves : (full : Epoch) → Moves (first c full) (first (caseAt c time) full)
-  unfolding first settlementTlcs trackedTlcs
-  first-moves full =
-      by-both Moves (lengthsZero (c .header) (c .current) full) _ _ _ _ tt
-      (by-both Moves (leb (length (settlementTlcs c)) 254) _ _ _ _
-      (by-both Moves (sameLists (built c) (trackedRecords (trackedTlcs c))) _ _ _ _ (first-thirds-moves full (scaled full 1 3) (scaled full 2 3)) tt)
-      tt)
-
--- the unlock is no longer
-abbrev Shorter : List (List ℕ) → Pick → Pick → Type 0
-Shorter ps (pick·.Chosen x k) (pick·.Chosen y j) = length (unlockOf ps y) ≤ length (unlockOf ps x)
-Shorter ps (pick·.Chosen x k) pick·.Nothing = Unit {0}
-Shorter ps pick·.Nothing y = Unit {0}
-
-unlock-least : (ps : List (List ℕ)) (c : Choice) → 67 ≤ length (unlockOf ps c)
-unfolding unlockOf wayBytes
-unlock-least ps (choice·.Share side) = omega (arith, unlockBytes-length (record { byte = sideByte side; flag = false }) (replicate 65 0) [])
-unlock-least ps (choice·.Tlc place way·.Timeout) = omega (arith, unlockBytes-length (record { byte = place; flag = false }) (replicate 65 0) [])
-unlock-least ps (choice·.Tlc place (way·.Preimage pair)) =
-    omega (arith, unlockBytes-length (record { byte = place; flag = true }) (replicate 65 0) (pairPreimage (getD ps pair [])))
-
-unlock-timeout : (ps : List (List ℕ)) (place : ℕ) → length (unlockOf ps (choice·.Tlc place way·.Timeout)) ≡ 67
-unfolding unlockOf wayBytes
-unlock-timeout ps place = unlockBytes-length (record { byte = place; flag = false }) (replicate 65 0) []
-
-unlock-shorter : (ps : List (List ℕ)) (x y : Pick) → Onward x y → Shorter ps x y
-unlock-shorter ps x y waits = tt
-unlock-shorter ps x y stays = omega arith
-unlock-shorter ps x y (sooner {choice = choice} {place = place} b) = omega (arith, unlock-timeout ps place, unlock-least ps choice)
-
--- the new args are as long, whatever they hash
-new-length : (args s t : List ℕ) → length (newArgs args s) ≡ length (newArgs args t)
-unfolding newArgs
-new-length args s t =
-    omega (
-      arith,
-      length-append (take 36 args ++ take 20 (ckbHash s) ++ (1 ∷ [])) (drop 57 args),
-      length-append (take 36 args ++ take 20 (ckbHash s)) (1 ∷ []),
-      length-append (take 36 args) (take 20 (ckbHash s)),
-      length-append (take 36 args ++ take 20 (ckbHash t) ++ (1 ∷ [])) (drop 57 args),
-      length-append (take 36 args ++ take 20 (ckbHash t)) (1 ∷ []),
-      length-append (take 36 args) (take 20 (ckbHash t)),
-      length-take 20 (ckbHash s),
-      length-take 20 (ckbHash t),
-      ckb-length s,
-      ckb-length t,
-    )
-
--- what is handed out now, and that something is later
-abbrev Keeps : ChoiceOutcome → ChoiceOutcome → Type 0
-Keeps o r =
-    (handed : Handed) → o .answer ≡ answer·.Chosen handed
-    → (next : Handed) × ((r .answer ≡ answer·.Chosen next) × Onward (pick·.Chosen (handed .choice) (handed .key)) (pick·.Chosen (next .choice) (next .key)))
-
-module _ (h : ℕ) (args : List ℕ) (tracked ps : List (List ℕ)) (out : List ℕ) where
-  -- of what is handed out: its choice, its key, and that it has room
-  handed-known : (p : Picked) (handed : Handed) → handedOut h args tracked ps p out .answer ≡ answer·.Chosen handed
-      → (p .choice ≡ handed .choice) × ((p .key ≡ handed .key) × (length (joined h args tracked ps p) ≤ length out))
-  unfolding handedOut
-  handed-known p handed =
-      by-test (λ (o : ChoiceOutcome). o .answer ≡ answer·.Chosen handed → (p .choice ≡ handed .choice) × ((p .key ≡ handed .key) × (length (joined h args tracked ps p) ≤ length out)))
-      (leb (length (joined h args tracked ps p)) (length out)) _ _
-      (λ g e. let z = inside _ handed e in (ap (λ (x : Handed). x .choice) z, (ap (λ (x : Handed). x .key) z, leb-true _ _ g)))
-      (λ g e. chosen-not 13 (length (joined h args tracked ps p)) handed e)
-
-  -- what has room is handed out
-  handed-room : (p : Picked) → length (joined h args tracked ps p) ≤ length out
-      → (next : Handed) × ((handedOut h args tracked ps p out .answer ≡ answer·.Chosen next) × ((next .choice ≡ p .choice) × (next .key ≡ p .key)))
-  unfolding handedOut
-  handed-room p g = rw (le-leb (length (joined h args tracked ps p)) (length out) g) (_, (refl, (refl, refl)))
-
-  -- a pick that moves on has room where it had
-  picked-keeps : (p q : Picked) → Moves (picked p) (picked q) → Keeps (handedOut h args tracked ps p out) (handedOut h args tracked ps q out)
-  picked-keeps p q m handed e =
-      let k = handed-known p handed e in
-      let s : length (unlockOf ps (q .choice)) ≤ length (unlockOf ps (p .choice)) = unlock-shorter ps (pick·.Chosen (p .choice) (p .key)) (pick·.Chosen (q .choice) (q .key)) (m .1 .1) in
-      let b : length (before h args tracked ps q) ≡ length (before h args tracked ps p) = rw (m .0, m .1 .0) in
-      let n : length (behind h args tracked ps q) ≡ length (behind h args tracked ps p) = new-length args _ _ in
-      let g : length (joined h args tracked ps q) ≤ length out =
-      omega (
-        arith,
-        k .1 .1,
-        s,
-        b,
-        n,
-        length-append (unlockOf ps (q .choice) ++ before h args tracked ps q) (behind h args tracked ps q),
-        length-append (unlockOf ps (q .choice)) (before h args tracked ps q),
-        length-append (unlockOf ps (p .choice) ++ before h args tracked ps p) (behind h args tracked ps p),
-        length-append (unlockOf ps (p .choice)) (before h args tracked ps p),
-      ) in
-      let r = handed-room q g in
-      (r .0, (r .1 .0, rw (r .1 .1 .0, r .1 .1 .1, ← k .0, ← k .1 .0) (m .1 .1)))
-
-  chosen-keeps : (x y : Chosen) → Moves x y → Keeps (afterChosen h args tracked ps out x) (afterChosen h args tracked ps out y)
-  unfolding afterChosen
-  chosen-keeps (turned number place) y m = λ handed e. chosen-not number place handed e
-  chosen-keeps (picked p) (turned number place) m = absurd m
-  chosen-keeps (picked p) (picked q) m = picked-keeps p q m
-
-choice-keeps : (c : Case) (time : ℕ) (isLater : Bool) (w out : List ℕ) → c .time ≤ time → Keeps (choiceOf c isLater w out) (choiceOf (caseAt c time) isLater w out)
-unfolding choiceOf afterDelay lentWell around settlementTlcs trackedTlcs pairs
-choice-keeps c time isLater w out i =
-    by-both Keeps (lentWell c) _ _ _ _ (go (delayOf (c .args))) (λ handed e. chosen-not 14 0 handed e)
-  where
-    go : (s : Scaled) → Keeps (afterDelay c isLater w out s) (afterDelay (caseAt c time) isLater w out s)
-    go (scaled·.Epoch full) =
-        chosen-keeps (c .h) (c .args) (trackedTlcs c) (pairs c) out _ _
-        (by-both Moves isLater _ _ _ _ (later-moves (around c) time i (c .given .localKey) (trackedTlcs c) w) (first-moves c time i full))
-    go (scaled·.Refused number place) = λ handed e. chosen-not number place handed e
-
-pub later-time-choice : LaterTimeChoice
-later-time-choice c time isLater w out handed i e =
-    let k = choice-keeps c time isLater w out (omega (arith, i)) handed e in
-    record { handed = k .0; told = k .1 .0; onward = k .1 .1 }
+    go : (c : Begun q isLater w) → Handed q isLater w c out d (choiceOf q isLater w out .bytes) → Parts q d (choiceOf q isLater w out .bytes)
+    go c t =
+        let tlcs = trackedRecords (trackedTlcs q) in
+        let n : length (trackedTlcs q) ≡ length tlcs = sym (tracked-length (trackedTlcs q)) in
+        let b : Within (length tlcs) (length (pairs q)) (d .choice) = rw n at (chosen-within q isLater w c out d _ t .0) in
+        let u = unlock-whole (pairs q) (d .choice) (begun-pairs q isLater w c) (b .1) in
+        record {
+          tlcs = tlcs;
+          remote = c .remote;
+          local = c .local;
+          sound = begun-sound q isLater w c;
+          few = omega (arith, n, c .few);
+          state = t .state;
+          alone = rw (t .unlock) (unlocks-one (unlockOf (pairs q) (d .choice)) (omega (arith, u .size, at-least (eqb (getD (unlockOf (pairs q) (d .choice)) 1 0) 1))) (u .size));
+          names = rw (t .unlock, t .amount, u .first) (names-by tlcs (c .remote) (c .local) (d .choice) (b .0));
+        }

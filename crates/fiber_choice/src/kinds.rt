@@ -2,8 +2,21 @@
 use fiber_types::epoch::Epoch;
 use fiber_types::tlc::Amount;
 
-// The numbers that the choice is asked with. The lists come beside them.
-pub struct Asked {
+// The bytes of a settlement TLC, and of a pair of hash and preimage.
+pub const SETTLEMENT_TLC: usize = 124;
+
+pub const PAIR: usize = 64;
+
+// A tracked TLC has this many bytes beside its hash of h bytes; its record begins behind the first 33.
+pub const TRACKED_FIXED: usize = 98;
+
+pub const TRACKED_RECORD: usize = 33;
+
+// A state has 254 TLCs at most where one of them is chosen: place 254 would be the byte of a share.
+pub const MOST_TLCS: usize = 254;
+
+// The scalars of a request. Its lists come beside them.
+pub struct Scalars {
     pub h: usize,
     pub for_remote: bool,
     pub time: u64,
@@ -52,21 +65,35 @@ pub enum Found {
     None,
 }
 
-// A walk over the TLCs: on to the next one with so many pending, or ended by a choice.
-pub enum Walk {
-    On(usize),
-    Ended { choice: Choice, key: Key },
+// Which of 1/3, 2/3 and all of the delay are due.
+pub struct Dues {
+    pub third: bool,
+    pub two_thirds: bool,
+    pub full: bool,
 }
 
-// What a walk comes to.
-pub enum Pick {
+// Which settlement a walk is of.
+pub enum Stage {
+    First(Dues),
+    Later,
+}
+
+// Whether the walk may begin; else a wait or a refusal, by its number.
+pub enum Ready {
+    Yes,
+    Wait(usize),
+    Refused(usize),
+}
+
+// What a step of the walk, and the walk as a whole, comes to: nothing chosen, with so many TLCs pending, or a choice.
+pub enum Step {
+    Pending(usize),
     Chosen { choice: Choice, key: Key },
-    Nothing,
 }
 
-// What is handed out beside the output: unlock, state and args are the lengths of its three parts, place and len the part of
-// the witness, or of the tracked list, that is the chosen TLC's record.
-pub struct Handed {
+// What is decided: the choice, its amount, key and delay; the lengths of the three parts of the output; place and length of
+// the chosen TLC's record in the witness, or in the tracked list.
+pub struct Decision {
     pub choice: Choice,
     pub amount: Amount,
     pub key: Key,
@@ -79,16 +106,11 @@ pub struct Handed {
 }
 
 pub enum ChoiceAnswer {
-    Chosen(Handed),
-    // Turned down, or a wait (20 to 22), by a row of document 01's table.
+    Chosen(Decision),
+    // Nothing to unlock as things stand, by row 20, 21 or 22 of document 01's table: ask again.
+    Wait { number: usize, place: usize },
+    // Turned down by any other row.
     Refused { number: usize, place: usize },
-}
-
-// Which of 1/3, 2/3 and all of the delay are due.
-pub struct Dues {
-    pub third: bool,
-    pub two_thirds: bool,
-    pub full: bool,
 }
 
 // What a choice comes to. The TLC at skip is settled, none where skip is as high as the number of TLCs; pair counts only

@@ -1,39 +1,42 @@
 // The records and shares that a commitment starts with, built from what the host lends.
-use crate::lent::same;
+use crate::entries::same;
 use fiber_bytes::le64;
 use fiber_bytes::part_of;
 use fiber_bytes::put;
 use fiber_bytes::put_le64;
+use fiber_choice::kinds::SETTLEMENT_TLC;
+use fiber_choice::kinds::TRACKED_FIXED;
+use fiber_choice::kinds::TRACKED_RECORD;
+use fiber_types::key::PUBLIC_KEY;
 use fiber_types::key::key_hash;
 use fiber_types::tlc;
 use fiber_types::tlc::Amount;
+use fiber_types::tlc::TLC_FIXED;
 use fiber_types::tlc::Tlc;
+use fiber_types::tlc::amount_at;
 ghost use mathlib.Core.Path.{_≡_};
 ghost use mathlib.Core.Bool.{true};
 ghost use Prim.Native.Nat.{_+_, _≤_};
 ghost use lib.ListN.{length};
 ghost use lib.Seq.{sets};
-ghost use Rattle.fiber_types.specs.Records.{known};
+ghost use Rattle.fiber_types.specs.Records.{validHashLen};
 ghost use Rattle.fiber_witness.specs.Witness.{recordLen, flat};
-ghost use Rattle.fiber_choice.specs.Lent.{entries, all, settlementWell, settlementLen, trackedLen, trackedRecords};
-ghost use Rattle.fiber_choice.specs.First as S;
-ghost use Rattle.fiber_choice.specs.Choice.{sameLists};
+ghost use Rattle.fiber_choice.specs.Entries.{entries, all, validSettlement, settlementLen, trackedLen, trackedRecords};
+ghost use Rattle.fiber_choice.specs.FirstRecords as S;
+ghost use Rattle.fiber_choice.specs.Entries.{sameLists};
 
 // The record of a settlement TLC of 124 bytes, to the front of an output that has room for it.
 pub fn put_first(h: usize, for_remote: bool, tlc: &[u8], out: &mut [u8])
-    requires { ⌜ (known h ≡ true) × ((settlementWell (now tlc) ≡ true) × ((length (now tlc) ≡ 124) × (recordLen h ≤ length (now out)))) ⌝ }
+    requires { ⌜ (validHashLen h ≡ true) × ((validSettlement (now tlc) ≡ true) × ((length (now tlc) ≡ 124) × (recordLen h ≤ length (now out)))) ⌝ }
     ensures { λ _. ⌜ now (out .exit) ≡ sets (now (out .entry)) 0 (S.firstRecord h «for_remote» (now (tlc .entry))) ⌝ }
 {
     let record = Tlc {
         kind: tlc[1] * 2 + tlc[0],
-        amount: Amount {
-            low: le64(tlc, 2),
-            high: le64(tlc, 10),
-        },
+        amount: amount_at(tlc, 2),
         expiry: 0x4000_0000_0000_0000 + le64(tlc, 50) / 1000,
     };
-    let local = key_hash(part_of(tlc, 58, 33));
-    let remote = key_hash(part_of(tlc, 91, 33));
+    let local = key_hash(part_of(tlc, 58, PUBLIC_KEY));
+    let remote = key_hash(part_of(tlc, 91, PUBLIC_KEY));
     let local_hash = local.bytes;
     let remote_hash = remote.bytes;
     if for_remote {
@@ -45,23 +48,31 @@ pub fn put_first(h: usize, for_remote: bool, tlc: &[u8], out: &mut [u8])
 
 // Whether the records of the settlement TLCs are those of the tracked list, one for one.
 pub fn same_as_tracked(h: usize, for_remote: bool, tlcs: &[u8], tracked: &[u8]) -> bool
-    requires { ⌜ (known h ≡ true) × (all settlementWell (entries settlementLen (now tlcs)) ≡ true) ⌝ }
+    requires { ⌜ (validHashLen h ≡ true) × (all validSettlement (entries settlementLen (now tlcs)) ≡ true) ⌝ }
     ensures { λ r. ⌜ r ≡ sameLists (S.firstRecords h «for_remote» (entries settlementLen (now (tlcs .entry)))) (trackedRecords (entries (trackedLen h) (now (tracked .entry)))) ⌝ }
 {
-    let size = 98 + h;
-    let n = tlcs.len() / 124;
+    let size = TRACKED_FIXED + h;
+    let n = tlcs.len() / SETTLEMENT_TLC;
     if n != tracked.len() / size {
         return false;
     }
     let mut record = [0u8; 97];
     let mut from = 0;
-    let mut at = 33;
+    let mut at = TRACKED_RECORD;
     for i in 0..n {
-        put_first(h, for_remote, &tlcs[from..from + 124], &mut record);
-        if !same(part_of(&record, 0, 65 + h), part_of(tracked, at, 65 + h)) {
+        put_first(
+            h,
+            for_remote,
+            &tlcs[from..from + SETTLEMENT_TLC],
+            &mut record,
+        );
+        if !same(
+            part_of(&record, 0, TLC_FIXED + h),
+            part_of(tracked, at, TLC_FIXED + h),
+        ) {
             return false;
         }
-        from += 124;
+        from += SETTLEMENT_TLC;
         at += size;
     }
     true
@@ -82,17 +93,22 @@ pub fn share_of(key: &[u8], amount: Amount) -> [u8; 36]
 
 // Writes the records of n settlement TLCs from byte 1 on, each straight into the part of the output where it belongs.
 pub fn put_first_tlcs(h: usize, for_remote: bool, tlcs: &[u8], out: &mut [u8])
-    requires { ⌜ (known h ≡ true) × (all settlementWell (entries settlementLen (now tlcs)) ≡ true) ⌝ }
+    requires { ⌜ (validHashLen h ≡ true) × (all validSettlement (entries settlementLen (now tlcs)) ≡ true) ⌝ }
     requires { ⌜ 1 + length (flat (S.firstRecords h «for_remote» (entries settlementLen (now tlcs)))) ≤ length (now out) ⌝ }
     ensures { λ _. ⌜ now (out .exit) ≡ sets (now (out .entry)) 1 (flat (S.firstRecords h «for_remote» (entries settlementLen (now (tlcs .entry))))) ⌝ }
 {
-    let size = 65 + h;
-    let n = tlcs.len() / 124;
+    let size = TLC_FIXED + h;
+    let n = tlcs.len() / SETTLEMENT_TLC;
     let mut from = 0;
     let mut at = 1;
     for i in 0..n {
-        put_first(h, for_remote, &tlcs[from..from + 124], &mut out[at..]);
-        from += 124;
+        put_first(
+            h,
+            for_remote,
+            &tlcs[from..from + SETTLEMENT_TLC],
+            &mut out[at..],
+        );
+        from += SETTLEMENT_TLC;
         at += size;
     }
 }

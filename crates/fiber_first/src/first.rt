@@ -2,39 +2,42 @@
 use crate::built::put_first;
 use crate::built::put_first_tlcs;
 use crate::built::share_of;
-use crate::lent::data_well;
-use crate::lent::settlement_well;
+use crate::entries::valid_data;
+use crate::entries::valid_settlements;
 use fiber_bytes::put;
+use fiber_choice::kinds::SETTLEMENT_TLC;
 use fiber_types::answer::Written;
 use fiber_types::tlc::Amount;
-use fiber_types::tlc::known;
+use fiber_types::tlc::TLC_FIXED;
+use fiber_types::tlc::valid_hash_len;
+use fiber_witness::witness::SHARE;
 ghost use mathlib.Core.Path.{_≡_};
-ghost use Rattle.fiber_choice.specs.First as S;
+ghost use Rattle.fiber_choice.specs.FirstRecords as S;
 
 // Writes the record of one settlement TLC to the front of out, which may be a part of a longer output.
 pub fn settlement_tlc_witness(h: usize, for_remote: bool, tlc: &[u8], out: &mut [u8]) -> Written
     ensures { λ r. ⌜ r ≡ S.wroteFirstTlc h «for_remote» (now (tlc .entry)) (now (out .entry)) .answer ⌝ }
     ensures { λ _. ⌜ now (out .exit) ≡ S.wroteFirstTlc h «for_remote» (now (tlc .entry)) (now (out .entry)) .bytes ⌝ }
 {
-    if !known(h) {
+    if !valid_hash_len(h) {
         return Written::Refused {
             number: 14,
             place: 0,
         };
     }
-    if tlc.len() != 124 {
+    if tlc.len() != SETTLEMENT_TLC {
         return Written::Refused {
             number: 14,
             place: 0,
         };
     }
-    if !settlement_well(tlc) {
+    if !valid_settlements(tlc) {
         return Written::Refused {
             number: 14,
             place: 0,
         };
     }
-    let size = 65 + h;
+    let size = TLC_FIXED + h;
     if out.len() < size {
         return Written::Refused {
             number: 13,
@@ -59,26 +62,26 @@ pub fn settlement_data_witness(
     ensures { λ r. ⌜ r ≡ S.wroteFirst h «for_remote» (record { tlcs = now (tlcs .entry); localAmount = «local_amount»; remoteAmount = «remote_amount»; localKey = now («local_key» .entry); remoteKey = now («remote_key» .entry) }) (now (out .entry)) .answer ⌝ }
     ensures { λ _. ⌜ now (out .exit) ≡ S.wroteFirst h «for_remote» (record { tlcs = now (tlcs .entry); localAmount = «local_amount»; remoteAmount = «remote_amount»; localKey = now («local_key» .entry); remoteKey = now («remote_key» .entry) }) (now (out .entry)) .bytes ⌝ }
 {
-    if !known(h) {
+    if !valid_hash_len(h) {
         return Written::Refused {
             number: 14,
             place: 0,
         };
     }
-    if !data_well(tlcs, local_key, remote_key) {
+    if !valid_data(tlcs, local_key, remote_key) {
         return Written::Refused {
             number: 14,
             place: 0,
         };
     }
-    let n = tlcs.len() / 124;
+    let n = tlcs.len() / SETTLEMENT_TLC;
     if 255 < n {
         return Written::Refused {
             number: 12,
             place: 0,
         };
     }
-    let size = 73 + n * (65 + h);
+    let size = 73 + n * (TLC_FIXED + h);
     if out.len() < size {
         return Written::Refused {
             number: 13,
@@ -91,10 +94,10 @@ pub fn settlement_data_witness(
     put_first_tlcs(h, for_remote, tlcs, out);
     if for_remote {
         put(out, size - 72, &remote);
-        put(out, size - 36, &local);
+        put(out, size - SHARE, &local);
     } else {
         put(out, size - 72, &local);
-        put(out, size - 36, &remote);
+        put(out, size - SHARE, &remote);
     }
     Written::Bytes(size)
 }

@@ -2,5 +2,5 @@
 // upper face, which hands `first` on: its functions may have a `requires` that their callers meet. Uses the lower face, and the
 // definitions of fiber_choice.
 pub mod built;
+pub mod entries;
 pub mod first;
-pub mod lent;

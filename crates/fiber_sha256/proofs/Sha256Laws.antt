@@ -7,7 +7,7 @@ use native.Mathlib.Nat.{zero-add, suc-add}
 use native.Mathlib.Numerals.{add-one}
 use native.Mathlib.Omega.{arith}
 use lib.ListN.{length, getD, set, take, drop, replicate, length-append, length-drop, length-replicate, replicate-append-replicate}
-use lib.Seq.{sets, length-sets, drop-cons, drop-drop, drop-append-le, take-append-le, take-take, take-suc, take-all, append-snoc, set-at, getD-set-other, getD-drop, length-take-le}
+use lib.Seq.{sets, length-sets, drop-cons, drop-drop, drop-append-le, take-append-le, take-take, take-all, append-snoc, set-at, getD-set-other, length-take-le}
 use lib.Pow.{mod-pow-add}
 use Rattle.fiber_bytes.specs.Bytes.{part, be, beBytes}
 use Rattle.fiber_sha256.specs.Sha256.{constants, ch, maj, sum0, sum1, sig0, sig1, padded, loaded, extended, first, second, turned, turns, folded, compressed, absorbed, wordsBytes, sha256}
@@ -197,17 +197,14 @@ filled (a ∷ vs) p n k e =
 filled-to : (vs p : List ℕ) (n j k : ℕ) → length p ≡ n → j ≡ length vs + k → sets (p ++ replicate j 0) n vs ≡ (p ++ vs) ++ replicate k 0
 filled-to vs p n j k e f = rw f (filled vs p n k e)
 
-pub rest-more : (s t : List ℕ) (at i : ℕ) → at + i < length s → i < 128 → t ≡ take i (drop at s) ++ replicate (128 - i) 0 → set t i (getD s (at + i) 0) ≡ take (i + 1) (drop at s) ++ replicate (128 - (i + 1)) 0
-rest-more s t at i l m e =
-    let o : i < length (drop at s) = rw length-drop (omega arith) in
-    rw (e, add-one)
-    (filled-to (getD s (at + i) 0 ∷ []) (take i (drop at s)) i (128 - i) (128 - suc i) (length-take-le i (drop at s) (omega arith)) (omega arith)
-    ∙ ap (λ (l : List ℕ). l ++ replicate (128 - suc i) 0) (ap (λ (x : ℕ). take i (drop at s) ++ (x ∷ [])) (sym (getD-drop at s i 0)) ∙ sym (take-suc (drop at s) i 0 o)))
-
-pub rest-all : (s t : List ℕ) (at i n : ℕ) → i ≡ n → n ≡ length s - at → t ≡ take i (drop at s) ++ replicate (128 - i) 0 → t ≡ drop at s ++ replicate (128 - (length s - at)) 0
-rest-all s t at i n f g e =
-    let o : length (drop at s) ≤ i = rw length-drop (omega arith) in
-    e ∙ ap₂ (λ (l : List ℕ) (j : ℕ). l ++ replicate (128 - j) 0) (take-all i (drop at s) o) (f ∙ g)
+-- bytes copied to the front of 128 zeros
+pub rest-copied : (s t : List ℕ) (at : ℕ) → at ≤ length s → length s < at + 64 → t ≡ sets (replicate 128 0) 0 (take (length s - at) (drop at s))
+    → t ≡ drop at s ++ replicate (128 - (length s - at)) 0
+rest-copied s t at h g e =
+    let n = length-drop at s in
+    e
+    ∙ ap (sets (replicate 128 0) 0) (take-all (length s - at) (drop at s) (omega (arith, n)))
+    ∙ filled-to (drop at s) [] 0 128 (128 - (length s - at)) refl (omega (arith, n))
 
 -- eight bytes are two words' bytes
 bytes8 : (x : ℕ) → beBytes 8 x ≡ beBytes 4 (x / 2 ^ 32) ++ beBytes 4 (x % 2 ^ 32)

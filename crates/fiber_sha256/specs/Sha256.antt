@@ -1,6 +1,5 @@
 -- SHA-256 in the order of FIPS 180-4, over lists of numbers.
 use Prim.Native.Nat.{ℕ, zero, suc, _+_, _-_, _*_, _/_, _%_, _^_}
-use mathlib.Core.Path.{_≡_}
 use mathlib.Core.List.{List, [], _∷_, _++_}
 use lib.ListN.{length, getD, set, replicate}
 use lib.Bits.{bitAnd, bitXor}
@@ -93,13 +92,3 @@ wordsBytes (x ∷ xs) = beBytes 4 x ++ wordsBytes xs
 
 unfoldable pub sha256 : List ℕ → List ℕ
 sha256 s = wordsBytes (absorbed ((length s + 8) / 64 + 1) (padded s))
-
--- What the code's runs of n turns from turn i on say of themselves, whatever came before: v to r, and where the schedule's words are made
--- beside the turns, w to w′.
-abbrev pub Turned : ℕ → ℕ → List ℕ → List ℕ → List ℕ → Type 0
-Turned n i w v r = (v₀ : List ℕ) → v ≡ turns i v₀ w → r ≡ turns (i + n) v₀ w
-
-abbrev pub Stepped : ℕ → ℕ → List ℕ → List ℕ → List ℕ → List ℕ → Type 0
-Stepped n i w v w′ r =
-    (v₀ w₀ : List ℕ) → (w ≡ extended i w₀) × (v ≡ turns i v₀ (extended 48 w₀))
-    → (w′ ≡ extended (i + n) w₀) × (r ≡ turns (i + n) v₀ (extended 48 w₀))

@@ -7,6 +7,8 @@ ghost use lib.Seq.{sets};
 ghost use Rattle.fiber_bytes.specs.Words.{rotated};
 ghost use Rattle.fiber_bytes.specs.Bytes.{part, be, beBytes};
 ghost use Rattle.fiber_sha256.specs.Sha256 as S;
+ghost use Rattle.fiber_sha256.specs.inner.Runs.{Turned, Stepped};
+use fiber_bytes::wide;
 use std::num::wrapping_add_u32;
 
 // 4.2.2
@@ -162,7 +164,7 @@ fn turn(v: [u32; 8], k: &[u32; 64], w: &[u32; 64], i: usize) -> [u32; 8]
 // Turn i, and word i + 16 of the schedule beside it (step 1): neither waits for the other.
 fn step(v: [u32; 8], k: &[u32; 64], w: &mut [u32; 64], i: usize) -> [u32; 8]
     requires { ⌜ (i < 48) × (now k ≡ S.constants) ⌝ }
-    ensures { λ r. ⌜ S.Stepped 1 i (now (w .entry)) v (now (w .exit)) r ⌝ }
+    ensures { λ r. ⌜ Stepped 1 i (now (w .entry)) v (now (w .exit)) r ⌝ }
 {
     w[i + 16] = add4(sig1(w[i + 14]), w[i + 9], sig0(w[i + 1]), w[i]);
     turn(v, k, w, i)
@@ -170,7 +172,7 @@ fn step(v: [u32; 8], k: &[u32; 64], w: &mut [u32; 64], i: usize) -> [u32; 8]
 
 fn two_steps(v: [u32; 8], k: &[u32; 64], w: &mut [u32; 64], i: usize) -> [u32; 8]
     requires { ⌜ (i + 2 ≤ 48) × (now k ≡ S.constants) ⌝ }
-    ensures { λ r. ⌜ S.Stepped 2 i (now (w .entry)) v (now (w .exit)) r ⌝ }
+    ensures { λ r. ⌜ Stepped 2 i (now (w .entry)) v (now (w .exit)) r ⌝ }
 {
     let a = step(v, k, w, i);
     step(a, k, w, i + 1)
@@ -179,7 +181,7 @@ fn two_steps(v: [u32; 8], k: &[u32; 64], w: &mut [u32; 64], i: usize) -> [u32; 8
 // After eight turns each working variable has its register again: no moves.
 fn eight_steps(v: [u32; 8], k: &[u32; 64], w: &mut [u32; 64], i: usize) -> [u32; 8]
     requires { ⌜ (i + 8 ≤ 48) × (now k ≡ S.constants) ⌝ }
-    ensures { λ r. ⌜ S.Stepped 8 i (now (w .entry)) v (now (w .exit)) r ⌝ }
+    ensures { λ r. ⌜ Stepped 8 i (now (w .entry)) v (now (w .exit)) r ⌝ }
 {
     let a = two_steps(v, k, w, i);
     let b = two_steps(a, k, w, i + 2);
@@ -190,7 +192,7 @@ fn eight_steps(v: [u32; 8], k: &[u32; 64], w: &mut [u32; 64], i: usize) -> [u32;
 // The last 16 turns make no more words.
 fn two_turns(v: [u32; 8], k: &[u32; 64], w: &[u32; 64], i: usize) -> [u32; 8]
     requires { ⌜ (i + 2 ≤ 64) × (now k ≡ S.constants) ⌝ }
-    ensures { λ r. ⌜ S.Turned 2 i (now (w .entry)) v r ⌝ }
+    ensures { λ r. ⌜ Turned 2 i (now (w .entry)) v r ⌝ }
 {
     let a = turn(v, k, w, i);
     turn(a, k, w, i + 1)
@@ -198,7 +200,7 @@ fn two_turns(v: [u32; 8], k: &[u32; 64], w: &[u32; 64], i: usize) -> [u32; 8]
 
 fn eight_turns(v: [u32; 8], k: &[u32; 64], w: &[u32; 64], i: usize) -> [u32; 8]
     requires { ⌜ (i + 8 ≤ 64) × (now k ≡ S.constants) ⌝ }
-    ensures { λ r. ⌜ S.Turned 8 i (now (w .entry)) v r ⌝ }
+    ensures { λ r. ⌜ Turned 8 i (now (w .entry)) v r ⌝ }
 {
     let a = two_turns(v, k, w, i);
     let b = two_turns(a, k, w, i + 2);
@@ -230,21 +232,16 @@ fn fold(h: [u32; 8], v: [u32; 8]) -> [u32; 8]
     r
 }
 
-fn wide(x: u8) -> u32
-    ensures { λ r. ⌜ (r ≡ x) × (r < 256) ⌝ }
-{
-    x as u32
-}
-
 // 3.1: words are big-endian. The four loads become one.
 fn word(s: &[u8], at: usize) -> u32
     requires { ⌜ at + 4 ≤ length (now s) ⌝ }
     ensures { λ r. ⌜ r ≡ be (part (now (s .entry)) at 4) ⌝ }
 {
-    0x100_0000 * wide(s[at])
+    let x = 0x100_0000 * wide(s[at])
         + 0x1_0000 * wide(s[at + 1])
         + 0x100 * wide(s[at + 2])
-        + wide(s[at + 3])
+        + wide(s[at + 3]);
+    x as u32
 }
 
 // Step 1: the sixteen words of the block, and room for the others, which `step` makes.
@@ -314,10 +311,7 @@ fn rest(s: &[u8], at: usize) -> [u8; 128]
     ensures { λ r. ⌜ r ≡ drop at (now (s .entry)) ++ replicate (128 - (length (now (s .entry)) - at)) 0 ⌝ }
 {
     let mut t = [0u8; 128];
-    let n = s.len() - at;
-    for i in 0..n {
-        t[i] = s[at + i];
-    }
+    fiber_bytes::put(&mut t, 0, &s[at..]);
     t
 }
 

@@ -15,7 +15,8 @@ use Rattle.fiber_since.specs.declared.epoch.Scaled.the-variants.{Refused
 use Rattle.fiber_since.specs.declared.epoch.Scaled.the-variants as scaled·
 use Rattle.fiber_since.specs.declared.epoch.DueTest.{DueTest}
 use Rattle.fiber_since.specs.declared.epoch.DueTest.the-variants as due·
-use Rattle.fiber_since.specs.Epoch.{Within, epochOf, withinBits, units, checkedMul, factor, normalized, scaled, due, dueTest}
+use Rattle.fiber_since.specs.Epoch.{epochOf, withinBits, units, factor, normalized, scaled, due, dueTest}
+use Rattle.fiber_since.specs.inner.Bounds.{checkedMul, Within}
 
 -- ---- products
 

@@ -1,5 +1,5 @@
 -- Epochs: fields, scaling and the due test; document 01, modules 2 to 4, with the numbers of its table.
-use Prim.Native.Nat.{ℕ, _+_, _*_, _/_, _%_, _^_, _<_}
+use Prim.Native.Nat.{ℕ, _+_, _*_, _/_, _%_, _^_}
 use mathlib.Core.Bool.{Bool, true, false, cond}
 use lib.Dec.{eqb, ltb, leb}
 use Rattle.fiber_since.specs.declared.epoch.Epoch.{Epoch}
@@ -7,8 +7,6 @@ use Rattle.fiber_since.specs.declared.epoch.Scaled.{Scaled}
 use Rattle.fiber_since.specs.declared.epoch.Scaled.the-variants as scaled·
 use Rattle.fiber_since.specs.declared.epoch.DueTest.{DueTest}
 use Rattle.fiber_since.specs.declared.epoch.DueTest.the-variants as due·
-use Rattle.fiber_since.specs.declared.epoch.Product.{Product}
-use Rattle.fiber_since.specs.declared.epoch.Product.the-variants as product·
 
 -- an epoch value has number (bits 0 to 23), index (24 to 39) and length (40 to 55)
 unfoldable pub epochOf : ℕ → Epoch
@@ -22,10 +20,6 @@ withinBits e = cond (ltb (e .number) (2 ^ 24)) (cond (ltb (e .index) (2 ^ 16)) (
 
 unfoldable pub units : Epoch → ℕ
 units e = e .number * e .length + e .index
-
--- a product that has 64 bits
-unfoldable pub checkedMul : ℕ → ℕ → Product
-checkedMul a b = cond (ltb (a * b) (2 ^ 64)) (product·.Fits (a * b)) product·.Over
 
 -- s: D div 1800 + 1 where D > 1800, else 1
 unfoldable pub factor : ℕ → ℕ
@@ -63,10 +57,3 @@ dueTest header delay current =
     (cond (cond (eqb (header .length) 0) true (cond (eqb (delay .length) 0) true (eqb (current .length) 0))) (due·.Refused 7 0)
     (cond (due header delay current) due·.Due due·.NotDue))
     (due·.Refused 14 0)
-
--- what the due test has found before it compares: each field within its bits, and no length of 0
-pub record Within (e : Epoch) : Type 0 where
-  pub number : e .number < 16777216
-  pub index : e .index < 65536
-  pub length : e .length < 65536
-  pub some : 0 < e .length

@@ -2,6 +2,7 @@
 ghost use mathlib.Core.Path.{_≡_};
 ghost use Prim.Native.Nat.{ℕ, _<_};
 ghost use Rattle.fiber_since.specs.Epoch as S;
+ghost use Rattle.fiber_since.specs.inner.Bounds.{checkedMul, Within};
 
 pub struct Epoch {
     pub number: u64,
@@ -54,7 +55,7 @@ pub fn within_bits(e: Epoch) -> bool
 
 // A product, tested and not assumed to have 64 bits.
 fn checked_mul(a: u64, b: u64) -> Product
-    ensures { λ r. ⌜ r ≡ S.checkedMul a b ⌝ }
+    ensures { λ r. ⌜ r ≡ checkedMul a b ⌝ }
 {
     if b == 0 {
         return Product::Fits(0);
@@ -124,7 +125,7 @@ pub fn mul(delay: Epoch, numerator: u64, denominator: u64) -> Scaled
 
 // Whether header + delay is at most current: the whole parts first, then the fractions below one.
 fn due(header: Epoch, delay: Epoch, current: Epoch) -> bool
-    requires { ⌜ (S.Within header) × ((S.Within delay) × (S.Within current)) ⌝ }
+    requires { ⌜ (Within header) × ((Within delay) × (Within current)) ⌝ }
     ensures { λ r. ⌜ r ≡ S.due header delay current ⌝ }
 {
     let l1 = header.length;

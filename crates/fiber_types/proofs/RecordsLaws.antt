@@ -18,37 +18,44 @@ use Rattle.fiber_types.specs.declared.tlc.TlcRead.the-variants as tlc·
 use Rattle.fiber_types.specs.declared.unlock.Unlock.{Unlock}
 use Rattle.fiber_types.specs.declared.unlock.UnlockRead.the-variants as unlock·
 use Rattle.fiber_bytes.specs.Bytes.{part, le, leBytes}
-use Rattle.fiber_types.specs.Records.{outcome, amountAt, known, tlcBytes, readTlc, wroteTlc, witnessLen, flagByte, unlockBytes, readUnlock, wroteUnlock}
+use Rattle.fiber_types.specs.Records.{outcome, amountAt, validHashLen, tlcBytes, tlcAt, readTlc, wroteTlc, witnessLen, flagByte, unlockBytes, readUnlock, wroteUnlock}
 use Rattle.fiber_bytes.proofs.BytesLaws.{part-part, leBytes-length, sets-then, le-none}
 
 -- ---- reading
 
 module _ (h : ℕ) (s : List ℕ) (at : ℕ) where
-  pub tlc-unknown : known h ≡ false → tlc·.Refused 14 0 ≡ readTlc h s at
+  pub tlc-unknown : validHashLen h ≡ false → tlc·.Refused 14 0 ≡ readTlc h s at
   unfolding readTlc
   tlc-unknown e = rw e
 
-  module _ (e : known h ≡ true) where
+  module _ (e : validHashLen h ≡ true) where
     pub tlc-cut : length s < at + (65 + h) → tlc·.Refused 2 at ≡ readTlc h s at
     unfolding readTlc
     tlc-cut g = rw (e, lt-leb (at + (65 + h)) (length s) g)
 
-    pub tlc-whole : at + (65 + h) ≤ length s
-        → tlc·.Record (record { kind = getD s at 0; amount = amountAt s (at + 1); expiry = le (part s (at + 57 + h) 8) }) ≡ readTlc h s at
+    pub tlc-whole : at + (65 + h) ≤ length s → readTlc h s at ≡ tlc·.Record (tlcAt h s at)
     unfolding readTlc
     tlc-whole g = rw (e, le-leb (at + (65 + h)) (length s) g)
 
-pub fields : {k x y : ℕ} {a b : Amount} → a ≡ b → x ≡ y → tlc·.Record (record { kind = k; amount = a; expiry = x }) ≡ tlc·.Record (record { kind = k; amount = b; expiry = y })
-fields e f = cc
+  -- its numbers
+  pub tlc-fields : (k : ℕ) (a : Amount) (x : ℕ) → k ≡ getD s at 0 → a ≡ amountAt s (at + 1) → x ≡ le (part s (at + 57 + h) 8)
+      → record { kind = k; amount = a; expiry = x } ≡ tlcAt h s at
+  unfolding tlcAt
+  tlc-fields k a x e f g = rw (e, f, g)
+
+  -- the amount is behind the type
+  pub tlc-amount : tlcAt h s at .amount ≡ amountAt s (at + 1)
+  unfolding tlcAt
+  tlc-amount = refl
 
 -- 20 is one
-pub known-20 : known 20 ≡ true
-unfolding known
-known-20 = refl
+pub hash-len-20 : validHashLen 20 ≡ true
+unfolding validHashLen
+hash-len-20 = refl
 
-pub known-small : (h : ℕ) → known h ≡ true → h ≤ 32
-unfolding known
-known-small h e = go (eqb h 20) (eqb h 32) refl refl e
+pub hash-len-small : (h : ℕ) → validHashLen h ≡ true → h ≤ 32
+unfolding validHashLen
+hash-len-small h e = go (eqb h 20) (eqb h 32) refl refl e
   where
     go : (a b : Bool) → eqb h 20 ≡ a → eqb h 32 ≡ b → cond a true b ≡ true → h ≤ 32
     go true b p q r = omega (arith, eqb-true h 20 p)
@@ -203,19 +210,19 @@ at-least true = lit≤ tt
 at-least false = lit≤ tt
 
 module _ (t : Tlc) (hash remote local out : List ℕ) where
-  pub tlc-unfit : (known (length hash) ≡ false) ⊎ ((length remote ≡ 20 → ⊥) ⊎ (length local ≡ 20 → ⊥))
+  pub tlc-unfit : (validHashLen (length hash) ≡ false) ⊎ ((length remote ≡ 20 → ⊥) ⊎ (length local ≡ 20 → ⊥))
       → (written·.Refused 14 0 ≡ wroteTlc t hash remote local out .answer) × (out ≡ wroteTlc t hash remote local out .bytes)
   unfolding wroteTlc
   tlc-unfit h = outcome-unfit _ (tlcBytes t hash remote local) out (go h)
     where
-      go : (known (length hash) ≡ false) ⊎ ((length remote ≡ 20 → ⊥) ⊎ (length local ≡ 20 → ⊥))
-          → cond (known (length hash)) (cond (eqb (length remote) 20) (eqb (length local) 20) false) false ≡ false
+      go : (validHashLen (length hash) ≡ false) ⊎ ((length remote ≡ 20 → ⊥) ⊎ (length local ≡ 20 → ⊥))
+          → cond (validHashLen (length hash)) (cond (eqb (length remote) 20) (eqb (length local) 20) false) false ≡ false
       go (inl e) = rw e
-      go (inr (inl e)) = rw (ne-eqb (length remote) 20 e) (same (known (length hash)))
-      go (inr (inr e)) = rw (ne-eqb (length local) 20 e) (deep (known (length hash)) (eqb (length remote) 20))
+      go (inr (inl e)) = rw (ne-eqb (length remote) 20 e) (same (validHashLen (length hash)))
+      go (inr (inr e)) = rw (ne-eqb (length local) 20 e) (deep (validHashLen (length hash)) (eqb (length remote) 20))
 
-  module _ (k : known (length hash) ≡ true) (e : length remote ≡ 20) (f : length local ≡ 20) where
-    fit : cond (known (length hash)) (cond (eqb (length remote) 20) (eqb (length local) 20) false) false ≡ true
+  module _ (k : validHashLen (length hash) ≡ true) (e : length remote ≡ 20) (f : length local ≡ 20) where
+    fit : cond (validHashLen (length hash)) (cond (eqb (length remote) 20) (eqb (length local) 20) false) false ≡ true
     fit = rw (k, e, f)
 
     size : length (tlcBytes t hash remote local) ≡ 65 + length hash

@@ -16,9 +16,9 @@ use Rattle.fiber_types.specs.declared.tlc.TlcRead.the-variants as tlc·
 use Rattle.fiber_types.specs.declared.unlock.Unlock.{Unlock}
 use Rattle.fiber_types.specs.declared.unlock.UnlockRead.the-variants as unlock·
 use Rattle.fiber_bytes.specs.Bytes.{part, le, leBytes}
-use Rattle.fiber_types.specs.Records.{amountOf, amountAt, known, tlcBytes, hashPlace, remotePlace, localPlace, readTlc, witnessLen, flagByte, unlockBytes, readUnlock}
+use Rattle.fiber_types.specs.Records.{amountOf, amountAt, validHashLen, tlcBytes, hashPlace, remotePlace, localPlace, tlcAt, readTlc, witnessLen, flagByte, unlockBytes, readUnlock}
 use Rattle.fiber_bytes.proofs.BytesLaws.{either, part-add, part-length, part-one, le-add, leBytes-length}
-use Rattle.fiber_types.proofs.RecordsLaws.{tlcBytes-length, unlockBytes-length, tlc-whole, unlock-whole, at-least, fields, amount-both}
+use Rattle.fiber_types.proofs.RecordsLaws.{tlcBytes-length, unlockBytes-length, tlc-whole, tlc-fields, unlock-whole, at-least, amount-both}
 
 -- every element is a byte
 pub Bytes : List ℕ → Type 0
@@ -86,7 +86,7 @@ pub record TlcBack (h : ℕ) (s : List ℕ) (at : ℕ) (t : Tlc) (a b c : List �
   pub remote : part s (remotePlace h at) 20 ≡ b
   pub local : part s (localPlace h at) 20 ≡ c
 
-module _ (t : Tlc) (hash remote local p q : List ℕ) (w : TlcFits t) (k : known (length hash) ≡ true) (e : length remote ≡ 20) (f : length local ≡ 20) where
+module _ (t : Tlc) (hash remote local p q : List ℕ) (w : TlcFits t) (k : validHashLen (length hash) ≡ true) (e : length remote ≡ 20) (f : length local ≡ 20) where
   abbrev low : List ℕ
   low = leBytes 8 (t .amount .low)
 
@@ -148,18 +148,17 @@ module _ (t : Tlc) (hash remote local p q : List ℕ) (w : TlcFits t) (k : known
   unfolding tlcBytes
   kind-at = getD-at p (t .kind) _ 0 (length p) refl
 
-  same : tlc·.Record t ≡ tlc·.Record (record { kind = getD whole (length p) 0; amount = amountAt whole (length p + 1); expiry = le (part whole (length p + 57 + length hash) 8) })
+  same : t ≡ tlcAt (length hash) whole (length p)
   same =
       let l : t .amount .low ≡ le (part whole (length p + 1) 8) = sym (ap le low-part ∙ le-leBytes 8 _ (w .low)) in
       let h : t .amount .high ≡ le (part whole (length p + 1 + 8) 8) = sym (ap le high-part ∙ le-leBytes 8 _ (w .high)) in
       let x : t .expiry ≡ le (part whole (length p + 57 + length hash) 8) = sym (ap le expiry-part ∙ le-leBytes 8 _ (w .expiry)) in
-      ap (λ (b : ℕ). tlc·.Record (record { kind = b; amount = t .amount; expiry = t .expiry })) (sym kind-at)
-      ∙ fields (amount-both whole (length p + 1) (t .amount .low) (t .amount .high) l h) x
+      tlc-fields (length hash) whole (length p) _ _ _ (sym kind-at) (amount-both whole (length p + 1) (t .amount .low) (t .amount .high) l h) x
 
   -- What was written reads back.
   pub tlc-reads-back : TlcBack (length hash) whole (length p) t hash remote local
   tlc-reads-back = record {
-    tlc = sym (same ∙ tlc-whole (length hash) whole (length p) k room);
+    tlc = tlc-whole (length hash) whole (length p) k room ∙ ap tlc·.Record (sym same);
     hash = hash-part;
     remote = remote-part;
     local = local-part;
@@ -167,13 +166,13 @@ module _ (t : Tlc) (hash remote local p q : List ℕ) (w : TlcFits t) (k : known
 
 -- what a TLC that was read says of the slice
 tlc-read : (h : ℕ) (s : List ℕ) (at : ℕ) (t : Tlc) → readTlc h s at ≡ tlc·.Record t
-    → (at + (65 + h) ≤ length s) × (t ≡ record { kind = getD s at 0; amount = amountAt s (at + 1); expiry = le (part s (at + 57 + h) 8) })
+    → (at + (65 + h) ≤ length s) × (t ≡ tlcAt h s at)
 unfolding readTlc
-tlc-read h s at t e = go (known h) (leb (at + (65 + h)) (length s)) refl e
+tlc-read h s at t e = go (validHashLen h) (leb (at + (65 + h)) (length s)) refl e
   where
     go : (a b : Bool) → leb (at + (65 + h)) (length s) ≡ b
-        → cond a (cond b (tlc·.Record (record { kind = getD s at 0; amount = amountAt s (at + 1); expiry = le (part s (at + 57 + h) 8) })) (tlc·.Refused 2 at)) (tlc·.Refused 14 0) ≡ tlc·.Record t
-        → (at + (65 + h) ≤ length s) × (t ≡ record { kind = getD s at 0; amount = amountAt s (at + 1); expiry = le (part s (at + 57 + h) 8) })
+        → cond a (cond b (tlc·.Record (tlcAt h s at)) (tlc·.Refused 2 at)) (tlc·.Refused 14 0) ≡ tlc·.Record t
+        → (at + (65 + h) ≤ length s) × (t ≡ tlcAt h s at)
     go true true p e = (leb-true (at + (65 + h)) (length s) p, cc)
     go true false p e = let z : _≡_ {A = ℕ} 0 1 = cc in absurd (omega arith)
     go false b p e = let z : _≡_ {A = ℕ} 0 1 = cc in absurd (omega arith)
@@ -181,7 +180,7 @@ tlc-read h s at t e = go (known h) (leb (at + (65 + h)) (length s)) refl e
 -- What was read and written is the same bytes.
 pub tlc-same-bytes : (h : ℕ) (s : List ℕ) (at : ℕ) (t : Tlc) → Bytes s → readTlc h s at ≡ tlc·.Record t
     → tlcBytes t (part s (hashPlace at) h) (part s (remotePlace h at) 20) (part s (localPlace h at) 20) ≡ part s at (65 + h)
-unfolding tlcBytes amountAt
+unfolding tlcBytes tlcAt amountAt
 tlc-same-bytes h s at t w e =
     let r = tlc-read h s at t e in
     let l : at + (65 + h) ≤ length s = r .0 in

@@ -48,8 +48,8 @@ amountAt s at = record { low = le (part s at 8); high = le (part s (at + 8) 8) }
 -- ---- TLCs
 
 -- h is 20, or 32 on a channel with full hashes
-unfoldable pub known : ℕ → Bool
-known h = cond (eqb h 20) true (eqb h 32)
+unfoldable pub validHashLen : ℕ → Bool
+validHashLen h = cond (eqb h 20) true (eqb h 32)
 
 -- type bit 0 clear: offered
 unfoldable pub isOffered : Tlc → Bool
@@ -74,18 +74,22 @@ localPlace h at = at + 37 + h
 abbrev pub expiryPlace : ℕ → ℕ → ℕ
 expiryPlace h at = at + 57 + h
 
+-- the numbers of the TLC at a place
+unfoldable pub tlcAt : ℕ → List ℕ → ℕ → Tlc
+tlcAt h s at = record { kind = getD s at 0; amount = amountAt s (at + 1); expiry = le (part s (expiryPlace h at) 8) }
+
 -- 14, then a TLC cut short: 2 at its first byte
 unfoldable pub readTlc : ℕ → List ℕ → ℕ → TlcRead
 readTlc h s at =
-    cond (known h)
+    cond (validHashLen h)
     (cond (leb (at + (65 + h)) (length s))
-    (tlc·.Record (record { kind = getD s at 0; amount = amountAt s (at + 1); expiry = le (part s (expiryPlace h at) 8) }))
+    (tlc·.Record (tlcAt h s at))
     (tlc·.Refused 2 at))
     (tlc·.Refused 14 0)
 
 unfoldable pub wroteTlc : Tlc → List ℕ → List ℕ → List ℕ → List ℕ → Outcome
 wroteTlc t hash remote local out =
-    outcome (cond (known (length hash)) (cond (eqb (length remote) 20) (eqb (length local) 20) false) false) (tlcBytes t hash remote local) out
+    outcome (cond (validHashLen (length hash)) (cond (eqb (length remote) 20) (eqb (length local) 20) false) false) (tlcBytes t hash remote local) out
 
 -- ---- unlocks
 

@@ -4,6 +4,9 @@ use fiber_bytes::put;
 ghost use mathlib.Core.Path.{_≡_};
 ghost use Rattle.fiber_types.specs.Key as S;
 
+// The bytes of a public key.
+pub const PUBLIC_KEY: usize = 33;
+
 pub enum KeyAnswer {
     Taken,
     // Turned down by a row of document 01's table.
@@ -20,7 +23,7 @@ pub struct KeyHash {
 pub fn key_hash(key: &[u8]) -> KeyHash
     ensures { λ r. ⌜ r ≡ S.keyHash (now (key .entry)) ⌝ }
 {
-    if key.len() != 33 {
+    if key.len() != PUBLIC_KEY {
         return KeyHash {
             answer: KeyAnswer::Refused {
                 number: 14,

@@ -9,6 +9,9 @@ ghost use lib.ListN.{length};
 ghost use lib.Seq.{sets};
 ghost use Rattle.fiber_types.specs.Records as S;
 
+// A record has this many bytes beside its hash.
+pub const TLC_FIXED: usize = 65;
+
 // An amount of 128 bits as two halves: low + 2^64 high.
 pub struct Amount {
     pub low: u64,
@@ -38,8 +41,8 @@ impl Tlc {
 }
 
 // Whether hashes can have h bytes: 20, or 32 on a channel with full hashes.
-pub fn known(h: usize) -> bool
-    ensures { λ r. ⌜ r ≡ S.known h ⌝ }
+pub fn valid_hash_len(h: usize) -> bool
+    ensures { λ r. ⌜ r ≡ S.validHashLen h ⌝ }
 {
     if h == 20 {
         return true;
@@ -47,8 +50,8 @@ pub fn known(h: usize) -> bool
     h == 32
 }
 
-// The amount in the 16 bytes at a place, lowest first.
-fn read_amount(s: &[u8], at: usize) -> Amount
+// The amount in the 16 bytes at a place, lowest first. Bytes past the end count as 0.
+pub fn amount_at(s: &[u8], at: usize) -> Amount
     ensures { λ r. ⌜ r ≡ S.amountAt (now (s .entry)) at ⌝ }
 {
     if s.len() <= at {
@@ -70,7 +73,7 @@ fn read_amount(s: &[u8], at: usize) -> Amount
 pub fn read(h: usize, s: &[u8], at: usize) -> TlcRead
     ensures { λ r. ⌜ r ≡ S.readTlc h (now (s .entry)) at ⌝ }
 {
-    if !known(h) {
+    if !valid_hash_len(h) {
         return TlcRead::Refused {
             number: 14,
             place: 0,
@@ -82,7 +85,7 @@ pub fn read(h: usize, s: &[u8], at: usize) -> TlcRead
             place: at,
         };
     }
-    if s.len() - at < 65 + h {
+    if s.len() - at < TLC_FIXED + h {
         return TlcRead::Refused {
             number: 2,
             place: at,
@@ -90,7 +93,7 @@ pub fn read(h: usize, s: &[u8], at: usize) -> TlcRead
     }
     TlcRead::Record(Tlc {
         kind: s[at],
-        amount: read_amount(s, at + 1),
+        amount: amount_at(s, at + 1),
         expiry: le64(s, at + 57 + h),
     })
 }
@@ -117,7 +120,7 @@ pub fn write(t: Tlc, hash: &[u8], remote: &[u8], local: &[u8], out: &mut [u8]) -
     ensures { λ r. ⌜ r ≡ S.wroteTlc t (now (hash .entry)) (now (remote .entry)) (now (local .entry)) (now (out .entry)) .answer ⌝ }
     ensures { λ _. ⌜ now (out .exit) ≡ S.wroteTlc t (now (hash .entry)) (now (remote .entry)) (now (local .entry)) (now (out .entry)) .bytes ⌝ }
 {
-    if !known(hash.len()) {
+    if !valid_hash_len(hash.len()) {
         return Written::Refused {
             number: 14,
             place: 0,
@@ -135,7 +138,7 @@ pub fn write(t: Tlc, hash: &[u8], remote: &[u8], local: &[u8], out: &mut [u8]) -
             place: 0,
         };
     }
-    let size = 65 + hash.len();
+    let size = TLC_FIXED + hash.len();
     if out.len() < size {
         return Written::Refused {
             number: 13,

@@ -7,6 +7,11 @@ ghost use lib.ListN.{length};
 ghost use lib.Seq.{sets};
 ghost use Rattle.fiber_types.specs.Records as S;
 
+// An unlock without a preimage, and with one.
+pub const UNLOCK: usize = 67;
+
+pub const UNLOCK_WITH_PREIMAGE: usize = 99;
+
 // What an unlock says of itself. Its signature and its preimage stay where they are, as parts of a slice.
 pub struct Unlock {
     pub byte: u8,
@@ -24,7 +29,11 @@ impl Unlock {
     pub fn witness_len(self) -> usize
         ensures { λ r. ⌜ r ≡ S.witnessLen (self .flag) ⌝ }
     {
-        if self.flag { 99 } else { 67 }
+        if self.flag {
+            UNLOCK_WITH_PREIMAGE
+        } else {
+            UNLOCK
+        }
     }
 }
 
@@ -39,7 +48,7 @@ pub fn read(s: &[u8], at: usize) -> UnlockRead
         };
     }
     let left = s.len() - at;
-    if left < 67 {
+    if left < UNLOCK {
         return UnlockRead::Refused {
             number: 4,
             place: at,
@@ -88,7 +97,7 @@ pub fn write(u: Unlock, signature: &[u8], preimage: &[u8], out: &mut [u8]) -> Wr
             place: 0,
         };
     }
-    if preimage.len() != size - 67 {
+    if preimage.len() != size - UNLOCK {
         return Written::Refused {
             number: 14,
             place: 0,

@@ -1,15 +1,16 @@
 // Stored preimages: a flat slice of pairs of 64 bytes, hash and preimage.
 use fiber_bytes::part_of;
 use fiber_choice::kinds::Found;
-use fiber_first::lent::same;
+use fiber_choice::kinds::PAIR;
+use fiber_first::entries::same;
 use fiber_types::blake2b::ckb_hash;
 use fiber_types::sha256::sha256;
 ghost use mathlib.Core.Path.{_≡_};
 ghost use Prim.Native.Nat.{ℕ, _+_, _*_, _≤_};
 ghost use lib.ListN.{length, getD};
 ghost use mathlib.Core.List.{[]};
-ghost use Rattle.fiber_choice.specs.Lent.{entries, pairLen};
-ghost use Rattle.fiber_choice.specs.Choice as S;
+ghost use Rattle.fiber_choice.specs.Entries.{entries, pairLen};
+ghost use Rattle.fiber_choice.specs.Preimages as S;
 
 // The hash of a preimage under an algorithm: 1 is SHA-256, else CKB's hash.
 fn digest(algorithm: u8, s: &[u8]) -> [u8; 32]
@@ -25,13 +26,13 @@ fn digest(algorithm: u8, s: &[u8]) -> [u8; 32]
 pub fn find_pair(preimages: &[u8], hash: &[u8]) -> Found
     ensures { λ r. ⌜ r ≡ S.findPair 0 (entries pairLen (now (preimages .entry))) (now (hash .entry)) ⌝ }
 {
-    let n = preimages.len() / 64;
+    let n = preimages.len() / PAIR;
     let mut at = 0;
     for i in 0..n {
         if same(&preimages[at..at + 32], hash) {
             return Found::At(i);
         }
-        at += 64;
+        at += PAIR;
     }
     Found::None
 }
@@ -41,7 +42,7 @@ pub fn counts(preimages: &[u8], pair: usize, tracked: &[u8]) -> bool
     requires { ⌜ (64 * pair + 64 ≤ length (now preimages)) × (33 ≤ length (now tracked)) ⌝ }
     ensures { λ r. ⌜ r ≡ S.countsAt (entries pairLen (now (preimages .entry))) (now (tracked .entry)) pair ⌝ }
 {
-    let found = digest(tracked[32], part_of(preimages, 64 * pair + 32, 32));
+    let found = digest(tracked[32], part_of(preimages, PAIR * pair + 32, 32));
     same(&found, part_of(tracked, 0, 32))
 }
 

@@ -1,10 +1,10 @@
 // Our slot, and the two kinds of TLCs.
 use fiber_choice::kinds::Choice;
 use fiber_choice::kinds::Key;
-use fiber_choice::kinds::Pick;
 use fiber_choice::kinds::Side;
+use fiber_choice::kinds::Step;
 ghost use mathlib.Core.Path.{_≡_};
-ghost use Rattle.fiber_choice.specs.Choice as S;
+ghost use Rattle.fiber_choice.specs.Walk as S;
 
 // Timeout kind: offered with for_remote, received without.
 pub fn timeout_kind(for_remote: bool, offered: bool) -> bool
@@ -17,7 +17,7 @@ pub fn timeout_kind(for_remote: bool, offered: bool) -> bool
 }
 
 // Our slot is local with for_remote, else remote.
-pub fn our_share(for_remote: bool) -> Pick
+pub fn our_share(for_remote: bool) -> Step
     ensures { λ r. ⌜ r ≡ S.ourShare «for_remote» ⌝ }
 {
     let side = if for_remote {
@@ -25,7 +25,7 @@ pub fn our_share(for_remote: bool) -> Pick
     } else {
         Side::Remote
     };
-    Pick::Chosen {
+    Step::Chosen {
         choice: Choice::Share(side),
         key: Key::Settlement,
     }

@@ -10,10 +10,10 @@ use Rattle.fiber_types.specs.declared.answer.Written.{Written}
 use Rattle.fiber_types.specs.declared.answer.Written.the-variants as written·
 use Rattle.fiber_witness.specs.declared.witness.WitnessRead.{WitnessRead}
 use Rattle.fiber_witness.specs.declared.witness.WitnessRead.the-variants as read·
-use Rattle.fiber_witness.specs.declared.judge.Verdict.{Verdict}
-use Rattle.fiber_witness.specs.declared.judge.Verdict.the-variants as verdict·
+use Rattle.fiber_witness.specs.declared.unlocks.UnlocksAnswer.{UnlocksAnswer}
+use Rattle.fiber_witness.specs.declared.unlocks.UnlocksAnswer.the-variants as unlocks·
 use Rattle.fiber_witness.specs.Witness.{recordLen, stateBytes, places, readWitness}
-use Rattle.fiber_witness.specs.Update.{Taken, none, judge, stateLeft, afterVerdict, afterJudged, afterRead, updated}
+use Rattle.fiber_witness.specs.Update.{Taken, none, takeUnlocks, stateLeft, Unlocked, byAnswer, byUnlocks, byRead, unlocked, written, updated}
 use Rattle.fiber_witness.proofs.WitnessLaws.{Fine, FineRead, fine}
 use Rattle.fiber_witness.proofs.UpdateLaws.{standing-length, state-length}
 use Rattle.fiber_types.proofs.RecordsLaws.{outcome-by}
@@ -43,17 +43,17 @@ module _ (h : ℕ) (w out : List ℕ) (n share first : ℕ) (f : Fine h w n shar
     size = omega (arith, state-length h w n share t (f .shares), standing-length h w n (t .settled) (omega (arith, f .tlcs, f .shares)));
   }
 
-  left-verdict : (t : Taken) (v : Verdict) → Left h (afterVerdict h w out n share t v .bytes) (afterVerdict h w out n share t v .answer)
-  unfolding afterVerdict
-  left-verdict t verdict·.Fine =
+  left-answer : (t : Taken) (v : UnlocksAnswer) → Left h (written h w out (byAnswer n share t v) .bytes) (written h w out (byAnswer n share t v) .answer)
+  unfolding byAnswer written
+  left-answer t unlocks·.Fine =
       outcome-by (Left h) (stateLeft h w n share t) out (λ g. subst (Whole h) (sym (take-sets out (stateLeft h w n share t) g)) (whole-state t)) tt
-  left-verdict t (verdict·.Refused number place) = tt
+  left-answer t (unlocks·.Refused number place) = tt
 
 -- What an update that was taken leaves is a whole state.
 pub left : (h : ℕ) (w out : List ℕ) → Left h (updated h w out .bytes) (updated h w out .answer)
-unfolding updated afterRead afterJudged
+unfolding updated unlocked byRead byUnlocks written
 left h w out = go (readWitness h w) (fine h w)
   where
-    go : (r : WitnessRead) → FineRead h w r → Left h (afterRead h w out r .bytes) (afterRead h w out r .answer)
-    go (read·.Whole n k share first) f = left-verdict h w out n share first f (judge n w none (places w first) .taken) (judge n w none (places w first) .verdict)
+    go : (r : WitnessRead) → FineRead h w r → Left h (written h w out (byRead w r) .bytes) (written h w out (byRead w r) .answer)
+    go (read·.Whole n k share first) f = left-answer h w out n share first f (takeUnlocks n w none (places w first) .taken) (takeUnlocks n w none (places w first) .answer)
     go (read·.Refused number place) f = tt

@@ -9,7 +9,7 @@ use lib.ListN.{length, getD, take, drop, length-append, length-drop}
 use lib.Seq.{drop-cons, drop-drop, take-at, drop-at, take-all}
 use Rattle.fiber_bytes.specs.Bytes.{part}
 use Rattle.fiber_bytes.proofs.BytesLaws.{part-add, part-length}
-use Rattle.fiber_types.specs.Records.{known}
+use Rattle.fiber_types.specs.Records.{validHashLen}
 use Rattle.fiber_witness.specs.declared.witness.WitnessRead.the-variants.{Whole, Refused}
 use Rattle.fiber_witness.specs.Witness.{recordLen, sharePlace, records, flat, stateBytes, places, unlessCut, readUnlocks, readTlcs, readWitness}
 use Rattle.fiber_witness.specs.Update.{Taken, keep, shareLeft, standing, stateLeft}
@@ -18,7 +18,7 @@ use Rattle.fiber_witness.proofs.UpdateLaws.{keep-few, even-keep, left-l
 
 -- what a channel whose hashes have h bytes can keep
 pub record Sound (h : ℕ) (rs : List (List ℕ)) (R L : List ℕ) : Type 0 where
-  pub hash : known h ≡ true
+  pub hash : validHashLen h ≡ true
   pub few : length rs ≤ 255
   pub even : Even (recordLen h) rs
   pub remote : length R ≡ 36
@@ -124,7 +124,7 @@ module _ (h : ℕ) (s : List ℕ) (e : length s ≡ 1 + getD s 0 0 * recordLen h
   tail-length = omega (arith, length-drop 1 s, e)
 
   -- they are sound
-  pub parts-sound : known h ≡ true → getD s 0 0 ≤ 255
+  pub parts-sound : validHashLen h ≡ true → getD s 0 0 ≤ 255
       → Sound h (records (recordLen h) (getD s 0 0) (drop 1 s)) (part s (1 + getD s 0 0 * recordLen h) 36) (part s (1 + getD s 0 0 * recordLen h + 36) 36)
   parts-sound k f = record {
     hash = k;

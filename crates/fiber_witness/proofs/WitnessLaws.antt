@@ -7,7 +7,7 @@ use mathlib.Core.Path.{_≡_, refl, sym, ap, subst, _∙_}
 use mathlib.Core.Bool.{Bool, true, false, cond}
 use mathlib.Core.List.{List, [], _∷_, _++_, append-assoc}
 use mathlib.Core.Logic.{⊎-elim}
-use lib.Dec.{ltb, leb, eqb, lit≤}
+use lib.Dec.{ltb, leb, eqb}
 use lib.ListN.{length, getD, take, drop, length-append, length-drop, take-append-drop}
 use lib.Seq.{drop-drop, take-at, drop-at}
 use borrow.Author.Tests.{lt-ltb, le-ltb, le-leb, lt-leb, leb-true}
@@ -15,8 +15,8 @@ use Rattle.fiber_bytes.proofs.BytesLaws.{either, part-length}
 use Rattle.fiber_bytes.proofs.CaseLaws.{by-test, by-test₂}
 use Rattle.fiber_types.specs.declared.unlock.Unlock.{Unlock}
 use Rattle.fiber_types.specs.declared.unlock.UnlockRead.the-variants as unlock·
-use Rattle.fiber_types.specs.Records.{known, witnessLen, readUnlock}
-use Rattle.fiber_types.proofs.RecordsLaws.{known-small, at-least}
+use Rattle.fiber_types.specs.Records.{validHashLen, witnessLen, readUnlock}
+use Rattle.fiber_types.proofs.RecordsLaws.{hash-len-small, at-least}
 use Rattle.fiber_types.proofs.RoundTrips.{unlock-read, unlock-refused}
 use Rattle.fiber_witness.specs.declared.witness.WitnessRead.{WitnessRead}
 use Rattle.fiber_witness.specs.declared.witness.WitnessRead.the-variants.{Whole, Refused}
@@ -31,14 +31,6 @@ left m k h = omega arith
 -- an unlock has at least 67 bytes
 pub unlock-long : (w : List ℕ) (at : ℕ) → 67 ≤ unlockLen w at
 unlock-long w at = at-least (eqb (getD w (at + 1) 0) 1)
-
--- and at most 99
-pub unlock-small : (w : List ℕ) (at : ℕ) → unlockLen w at ≤ 99
-unlock-small w at = go (eqb (getD w (at + 1) 0) 1)
-  where
-    go : (b : Bool) → witnessLen b ≤ 99
-    go true = lit≤ tt
-    go false = lit≤ tt
 
 -- fuel beyond what is left of the witness changes nothing
 within : (f g : ℕ) (w : List ℕ) (at : ℕ) → length w ≤ at + f → length w ≤ at + g → placesWithin f w at ≡ placesWithin g w at
@@ -106,6 +98,14 @@ by-cut P w (p ∷ ps) c c′ x x′ f g =
     let r = by-cut P w ps c c′ x x′ f g in
     by-test₂ P (leb (p + unlockLen w p) (length w)) _ _ _ _ (λ _. r) (λ _. f p)
 
+-- an unlock that is read has the length that the reader says, and ends within the witness
+pub unlock-whole : (w : List ℕ) (at : ℕ) (u : Unlock) (len : ℕ) → readUnlock w at ≡ unlock·.Record u → len ≡ witnessLen (u .flag)
+    → (len ≡ unlockLen w at) × (at + unlockLen w at ≤ length w)
+unlock-whole w at u len e g =
+    let r = unlock-read w at u e in
+    let f : len ≡ unlockLen w at = g ∙ ap (λ (v : Unlock). witnessLen (v .flag)) (r .1) in
+    (f, omega (arith, r .0))
+
 -- The loop over the unlocks, k before place at: what it finds from here is what the whole finds.
 pub record Reading (w : List ℕ) (n share at k : ℕ) : Type 0 where
   pub few : k ≤ at
@@ -131,14 +131,12 @@ module _ (w : List ℕ) (n share at k : ℕ) (c : Reading w n share at k) where
       -- an unlock that is whole is passed
       pub reading-more : Reading w n share (at + len) (k + 1)
       reading-more =
-          let r = unlock-read w at u e in
-          let f : len ≡ unlockLen w at = g ∙ ap (λ (v : Unlock). witnessLen (v .flag)) (r .1) in
-          let l : at + unlockLen w at ≤ length w = omega (arith, r .0) in
+          let r = unlock-whole w at u len e g in
           let m : k + suc (length (places w (at + unlockLen w at))) ≡ k + 1 + length (places w (at + unlockLen w at)) = omega arith in
           record {
-            few = omega (arith, c .few, unlock-long w at);
-            room = omega (arith, r .0);
-            rest = rw f (rw (places-cons w at h, cut-passed w (Refused 4) _ at (places w (at + unlockLen w at)) l, m) at (c .rest));
+            few = omega (arith, c .few, r .0, unlock-long w at);
+            room = omega (arith, r .0, r .1);
+            rest = rw (r .0) (rw (places-cons w at h, cut-passed w (Refused 4) _ at (places w (at + unlockLen w at)) (r .1), m) at (c .rest));
           }
 
     -- one that is not is what the whole finds
@@ -206,11 +204,11 @@ module _ (h : ℕ) (w : List ℕ) (n : ℕ) where
 
 module _ (h : ℕ) (w : List ℕ) where
   -- row 14
-  pub witness-unknown : known h ≡ false → Refused 14 0 ≡ readWitness h w
+  pub witness-unknown : validHashLen h ≡ false → Refused 14 0 ≡ readWitness h w
   unfolding readWitness
   witness-unknown k = rw k
 
-  module _ (k : known h ≡ true) where
+  module _ (k : validHashLen h ≡ true) where
     -- row 1
     pub witness-short : length w < 2 → Refused 1 (length w) ≡ readWitness h w
     unfolding readWitness
@@ -225,7 +223,7 @@ module _ (h : ℕ) (w : List ℕ) where
 
 -- its hash length, its TLC count, and where its parts begin
 pub record Fine (h : ℕ) (w : List ℕ) (n share first : ℕ) : Type 0 where
-  pub hash : known h ≡ true
+  pub hash : validHashLen h ≡ true
   pub small : h ≤ 32
   pub count : n ≡ getD w 1 0
   pub tlcs : share ≡ sharePlace h n
@@ -237,14 +235,14 @@ abbrev pub FineRead : ℕ → List ℕ → WitnessRead → Type 0
 FineRead h w (Whole n k share first) = Fine h w n share first
 FineRead h w (Refused number place) = Unit {0}
 
-module _ (h : ℕ) (w : List ℕ) (n : ℕ) (s : known h ≡ true) (c : n ≡ getD w 1 0) where
+module _ (h : ℕ) (w : List ℕ) (n : ℕ) (s : validHashLen h ≡ true) (c : n ≡ getD w 1 0) where
   fine-shares : (share : ℕ) → share ≡ sharePlace h n → FineRead h w (readShares w n share)
   unfolding readShares readUnlocks
   fine-shares share e =
       by-test (FineRead h w) (leb (share + 72) (length w)) _ _
       (λ t. by-cut (λ r _. FineRead h w r) w (places w (share + 72)) (Refused 4) (λ p. p) _ 0
       (λ p. tt)
-      (record { hash = s; small = known-small h s; count = c; tlcs = e; shares = leb-true _ _ t; unlocks = refl }))
+      (record { hash = s; small = hash-len-small h s; count = c; tlcs = e; shares = leb-true _ _ t; unlocks = refl }))
       (λ _. tt)
 
   fine-tlcs : (m at : ℕ) → at + m * recordLen h ≡ sharePlace h n → FineRead h w (readTlcs m h w n at)
@@ -259,7 +257,7 @@ module _ (h : ℕ) (w : List ℕ) (n : ℕ) (s : known h ≡ true) (c : n ≡ ge
 pub fine : (h : ℕ) (w : List ℕ) → FineRead h w (readWitness h w)
 unfolding readWitness
 fine h w =
-    by-test (FineRead h w) (known h) _ _
+    by-test (FineRead h w) (validHashLen h) _ _
     (λ t. by-test (FineRead h w) (leb 2 (length w)) _ _ (λ _. fine-tlcs h w (getD w 1 0) t refl (getD w 1 0) 2 refl) (λ _. tt))
     (λ _. tt)
 

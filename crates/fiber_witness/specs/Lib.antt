@@ -1,4 +1,5 @@
 -- What reading a witness, its unlocks and an update mean.
 pub mod Witness
+pub mod Unlocks
 pub mod Update
-pub mod Marks
+pub mod inner

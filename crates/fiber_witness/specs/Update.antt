@@ -8,8 +8,8 @@ use Rattle.fiber_bytes.specs.Bytes.{part}
 use Rattle.fiber_types.specs.Records.{Outcome, refused, outcome}
 use Rattle.fiber_witness.specs.declared.witness.WitnessRead.{WitnessRead}
 use Rattle.fiber_witness.specs.declared.witness.WitnessRead.the-variants as read·
-use Rattle.fiber_witness.specs.declared.judge.Verdict.{Verdict}
-use Rattle.fiber_witness.specs.declared.judge.Verdict.the-variants as verdict·
+use Rattle.fiber_witness.specs.declared.unlocks.UnlocksAnswer.{UnlocksAnswer}
+use Rattle.fiber_witness.specs.declared.unlocks.UnlocksAnswer.the-variants as unlocks·
 use Rattle.fiber_witness.specs.Witness.{recordLen, records, stateBytes, member, places, readWitness}
 
 -- ---- the unlocks, in order
@@ -24,24 +24,24 @@ abbrev pub none : Taken
 none = record { settled = []; remote = false; local = false }
 
 -- with what was taken up to the unlock that ends it
-pub record Judged : Type 0 where
-  pub verdict : Verdict
+pub record TakenUnlocks : Type 0 where
+  pub answer : UnlocksAnswer
   pub taken : Taken
 
 -- Unlocks at the places of w, of n TLCs. 0xFF is the local share and 0xFE the remote one, repeats allowed. Another byte is the place of a
 -- TLC in the list before any removal: 5 where there is none, 6 where it is settled already.
-unfoldable pub judge : ℕ → List ℕ → Taken → List ℕ → Judged
-judge n w t [] = record { verdict = verdict·.Fine; taken = t }
-judge n w t (p ∷ ps) =
+unfoldable pub takeUnlocks : ℕ → List ℕ → Taken → List ℕ → TakenUnlocks
+takeUnlocks n w t [] = record { answer = unlocks·.Fine; taken = t }
+takeUnlocks n w t (p ∷ ps) =
     let byte = getD w p 0 in
-    let onLocal = judge n w (record { settled = t .settled; remote = t .remote; local = true }) ps in
-    let onRemote = judge n w (record { settled = t .settled; remote = true; local = t .local }) ps in
-    let onTlc = judge n w (record { settled = byte ∷ t .settled; remote = t .remote; local = t .local }) ps in
+    let onLocal = takeUnlocks n w (record { settled = t .settled; remote = t .remote; local = true }) ps in
+    let onRemote = takeUnlocks n w (record { settled = t .settled; remote = true; local = t .local }) ps in
+    let onTlc = takeUnlocks n w (record { settled = byte ∷ t .settled; remote = t .remote; local = t .local }) ps in
     cond (eqb byte 255) onLocal
     (cond (eqb byte 254) onRemote
     (cond (ltb byte n)
-    (cond (member byte (t .settled)) (record { verdict = verdict·.Refused 6 p; taken = t }) onTlc)
-    (record { verdict = verdict·.Refused 5 p; taken = t })))
+    (cond (member byte (t .settled)) (record { answer = unlocks·.Refused 6 p; taken = t }) onTlc)
+    (record { answer = unlocks·.Refused 5 p; taken = t })))
 
 -- ---- the state left
 
@@ -66,17 +66,30 @@ stateLeft h w n share t =
 
 -- ---- the update
 
-unfoldable pub afterVerdict : ℕ → List ℕ → List ℕ → ℕ → ℕ → Taken → Verdict → Outcome
-afterVerdict h w out n share t verdict·.Fine = outcome true (stateLeft h w n share t) out
-afterVerdict h w out n share t (verdict·.Refused number place) = refused number place out
+-- what the unlocks of a witness take, of n TLCs and shares at a place, or the row that turns it down
+pub data Unlocked : Type 0 where
+  fine : ℕ → ℕ → Taken → Unlocked
+  faulty : ℕ → ℕ → Unlocked
 
-unfoldable pub afterJudged : ℕ → List ℕ → List ℕ → ℕ → ℕ → Judged → Outcome
-afterJudged h w out n share j = afterVerdict h w out n share (j .taken) (j .verdict)
+unfoldable pub byAnswer : ℕ → ℕ → Taken → UnlocksAnswer → Unlocked
+byAnswer n share t unlocks·.Fine = fine n share t
+byAnswer n share t (unlocks·.Refused number place) = faulty number place
 
-unfoldable pub afterRead : ℕ → List ℕ → List ℕ → WitnessRead → Outcome
-afterRead h w out (read·.Whole n k share first) = afterJudged h w out n share (judge n w none (places w first))
-afterRead h w out (read·.Refused number place) = refused number place out
+unfoldable pub byUnlocks : ℕ → ℕ → TakenUnlocks → Unlocked
+byUnlocks n share j = byAnswer n share (j .taken) (j .answer)
 
--- read, judge the unlocks, and write the state left to the front of the output: 13 at its length where it has no room
+unfoldable pub byRead : List ℕ → WitnessRead → Unlocked
+byRead w (read·.Whole n k share first) = byUnlocks n share (takeUnlocks n w none (places w first))
+byRead w (read·.Refused number place) = faulty number place
+
+-- read, then take the unlocks in order
+unfoldable pub unlocked : ℕ → List ℕ → Unlocked
+unlocked h w = byRead w (readWitness h w)
+
+-- the state left goes to the front of the output: 13 at its length where it has no room
+unfoldable pub written : ℕ → List ℕ → List ℕ → Unlocked → Outcome
+written h w out (fine n share t) = outcome true (stateLeft h w n share t) out
+written h w out (faulty number place) = refused number place out
+
 unfoldable pub updated : ℕ → List ℕ → List ℕ → Outcome
-updated h w out = afterRead h w out (readWitness h w)
+updated h w out = written h w out (unlocked h w)

@@ -5,7 +5,7 @@ use mathlib.Core.Bool.{Bool, true, false, cond}
 use mathlib.Core.List.{List, [], _∷_, _++_}
 use lib.ListN.{length, getD, take, drop}
 use lib.Dec.{ltb, leb, eqb}
-use Rattle.fiber_types.specs.Records.{known, witnessLen}
+use Rattle.fiber_types.specs.Records.{validHashLen, witnessLen}
 use Rattle.fiber_witness.specs.declared.witness.WitnessRead.{WitnessRead}
 use Rattle.fiber_witness.specs.declared.witness.WitnessRead.the-variants.{Whole, Refused}
 
@@ -82,6 +82,6 @@ readTlcs (suc m) h w n at =
 -- 14, then a witness below 2 bytes: 1 at its length
 unfoldable pub readWitness : ℕ → List ℕ → WitnessRead
 readWitness h w =
-    cond (known h)
+    cond (validHashLen h)
     (cond (leb 2 (length w)) (readTlcs (getD w 1 0) h w (getD w 1 0) 2) (Refused 1 (length w)))
     (Refused 14 0)

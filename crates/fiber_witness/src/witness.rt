@@ -1,11 +1,15 @@
 // The reader of a settlement witness: unlock count 1 (never looked at), TLC count n 1, n TLCs, two shares, unlocks to the end.
-use fiber_types::tlc::known;
+use fiber_types::tlc::TLC_FIXED;
+use fiber_types::tlc::valid_hash_len;
 use fiber_types::unlock;
 use fiber_types::unlock::UnlockRead;
 ghost use mathlib.Core.Path.{_≡_};
 ghost use Prim.Native.Nat.{_+_, _≤_};
 ghost use lib.ListN.{length};
 ghost use Rattle.fiber_witness.specs.Witness.{readUnlocks, readTlcs, readWitness};
+
+// A share: key hash 20, amount 16.
+pub const SHARE: usize = 36;
 
 pub enum WitnessRead {
     // n TLCs, the share part at share, and so many unlocks, the first at first.
@@ -54,7 +58,7 @@ fn read_tlcs(h: usize, w: &[u8], n: usize) -> WitnessRead
     requires { ⌜ (2 ≤ length (now w)) × ((h ≤ 32) × (n ≤ 255)) ⌝ }
     ensures { λ r. ⌜ r ≡ readTlcs n h (now (w .entry)) n 2 ⌝ }
 {
-    let size = 65 + h;
+    let size = TLC_FIXED + h;
     let share = 2 + n * size;
     if w.len() < share {
         let whole = (w.len() - 2) / size;
@@ -76,7 +80,7 @@ fn read_tlcs(h: usize, w: &[u8], n: usize) -> WitnessRead
 pub fn read(h: usize, w: &[u8]) -> WitnessRead
     ensures { λ r. ⌜ r ≡ readWitness h (now (w .entry)) ⌝ }
 {
-    if !known(h) {
+    if !valid_hash_len(h) {
         return WitnessRead::Refused {
             number: 14,
             place: 0,

@@ -7,14 +7,14 @@ use mathlib.Core.Bool.{Bool, true, false, cond}
 use mathlib.Core.List.{List, [], _∷_, _++_, map}
 use lib.ListN.{length, getD, take, length-append, List·getD-map}
 use lib.Seq.{take-at, drop-at, take-all}
-use Rattle.fiber_choice.specs.Lent.{same, entries, trackedHash, trackedAlgorithm, pairLen, pairHash, pairPreimage}
-use Rattle.fiber_choice.specs.Choice.{digest, findPair, countsAt}
+use Rattle.fiber_choice.specs.Entries.{same, entries, trackedHash, trackedAlgorithm, pairLen, pairHash, pairPreimage}
+use Rattle.fiber_choice.specs.Preimages.{digest, findPair, countsAt}
 use Rattle.fiber_choice.specs.declared.kinds.Found.{Found}
 use Rattle.fiber_choice.specs.declared.kinds.Found.the-variants.{At, None}
 use Rattle.preimage_list.specs.declared.Preimage.{Preimage}
 use Rattle.preimage_list.specs.PreimageList.{findIn, flatPairs}
-use Rattle.fiber_choice.proofs.LentLaws.{entries-none, entries-append}
-use Rattle.fiber_choice.proofs.LaterLaws.{find-none, find-more, counts-by}
+use Rattle.fiber_choice.proofs.EntriesLaws.{entries-none, entries-append}
+use Rattle.fiber_choice.proofs.PreimagesLaws.{find-none, find-more, counts-by}
 
 -- what stands past the end of a list of pairs
 abbrev pub noPair : Preimage

@@ -12,7 +12,7 @@ use lib.Dec.{ltb}
 use lib.ListN.{length, getD, drop, drop-of-length-le}
 use lib.Seq.{drop-cons}
 use borrow.Author.Tests.{lt-ltb, le-ltb}
-use Rattle.fiber_choice.specs.Lent.{same}
+use Rattle.fiber_choice.specs.Entries.{same}
 use Rattle.fiber_choice.specs.declared.kinds.Found.{Found}
 use Rattle.fiber_choice.specs.declared.kinds.Found.the-variants.{At, None}
 use Rattle.preimage_list.specs.declared.Preimage.{Preimage}

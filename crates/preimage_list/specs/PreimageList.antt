@@ -4,7 +4,7 @@ use mathlib.Core.Bool.{cond}
 use mathlib.Core.List.{List, [], _∷_, _++_}
 use Rattle.fiber_choice.specs.declared.kinds.Found.{Found}
 use Rattle.fiber_choice.specs.declared.kinds.Found.the-variants.{At, None}
-use Rattle.fiber_choice.specs.Lent.{same}
+use Rattle.fiber_choice.specs.Entries.{same}
 use Rattle.preimage_list.specs.declared.Preimage.{Preimage}
 
 -- the first pair with a hash; the first of the list is at place i

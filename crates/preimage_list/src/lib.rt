@@ -1,39 +1,26 @@
 // Stored preimages as a list of records: a lent slice of structs of two 32-byte arrays. `find_pair` is the one function that carries such a
 // slice, and is proved by hand; each comparison stands in a function on plain arrays. A form beside the upper face, for whoever lends such a
-// list; no crate of the core uses it. Uses the upper face's definitions.
+// list; no crate of the core uses it, the program `forms` runs it. Uses the upper face and fiber_first.
+use fiber_first::entries::same;
 use watchtower::choice::Found;
 ghost use mathlib.Core.Path.{_≡_};
 ghost use mathlib.Core.Bool.{cond};
 ghost use lib.Dec.{ltb};
-ghost use Rattle.fiber_choice.specs.Lent as S;
+ghost use Rattle.fiber_choice.specs.Entries as S;
 ghost use Rattle.fiber_choice.specs.declared.kinds.Found.the-variants as found·;
 ghost use Rattle.preimage_list.specs.PreimageList.{findIn, flatPairs};
-ghost use Rattle.fiber_choice.specs.Choice.{findPair};
+ghost use Rattle.fiber_choice.specs.Preimages.{findPair};
 
 pub struct Preimage {
     pub hash: [u8; 32],
     pub preimage: [u8; 32],
 }
 
-// Whether two arrays hold the same bytes.
-fn same(a: [u8; 32], b: [u8; 32]) -> bool
-    ensures { λ r. ⌜ r ≡ S.same a b ⌝ }
-{
-    let mut i = 0;
-    while i < 32 {
-        if a[i] != b[i] {
-            return false;
-        }
-        i += 1;
-    }
-    true
-}
-
 // Where a search ends that has come to i: at i, if this is what is looked for, and else where it would have ended.
 fn cut(a: [u8; 32], b: [u8; 32], i: usize, end: usize) -> usize
     ensures { λ r. ⌜ r ≡ cond (S.same a b) i end ⌝ }
 {
-    if same(a, b) { i } else { end }
+    if same(&a, &b) { i } else { end }
 }
 
 // What a search among n finds that ended at a place: nothing, if it went past them all.

@@ -2,7 +2,8 @@
 -- Assumes nothing.
 use mathlib.Core.Path.{_≡_, refl, sym, ap, subst, _∙_}
 use mathlib.Core.List.{List, [], _∷_, _++_, append-assoc, append-nil}
-use mathlib.Core.Logic.{⊎-elim}
+use mathlib.Core.Bool.{Bool, true, false, cond}
+use mathlib.Core.Logic.{_⊎_, inl, inr, ⊎-elim}
 use Prim.Native.Nat.{ℕ, zero, suc, _+_, _-_, _*_, _/_, _%_, _^_, _≤_, _<_}
 use native.Mathlib.Nat.{sub-zero, add-sub-cancel-left, suc-mul, pow-suc, mul-le-mul, mul-le-mul-right}
 use native.Mathlib.Numerals.{add-one}
@@ -17,7 +18,7 @@ use Rattle.fiber_types.specs.Records.{Outcome}
 use Rattle.fiber_witness.specs.Witness.{recordLen, records}
 use Rattle.fiber_witness.specs.Update.{updated}
 use Rattle.fiber_witness.proofs.LeftLaws as left·
-use Rattle.report.specs.Report.{digitsWithin, decimal, hexDigit, hex, hexHighest, tlcLine, tlcLines, shareLine, refusedText, stateText, saidText, Report, afterUpdate, afterInput, reported, tlcsWord, tlcWord, remoteWord, localWord, refusedWord, atWord}
+use Rattle.report.specs.Report.{digitsWithin, decimal, hexDigit, hex, hexHighest, hexBy, tlcLine, tlcLines, shareLine, refusedText, stateText, saidText, Report, afterUpdate, afterInput, reported, tlcsWord, tlcWord, remoteWord, localWord, refusedWord, atWord}
 use Rattle.fiber_witness.proofs.WitnessLaws.{records-none, records-more}
 
 -- ---- writes, one behind the other
@@ -188,7 +189,7 @@ unfolding hex
 hex-byte l at b {l₁} {l₂} {d} {e} f h g k = k ∙ rw (add-one at, h, f, g)
 
 -- a turn of the writing: what is left to write, from here, gives what the whole gives
-pub hex-more : (l src : List ℕ) (at i : ℕ) {m : List ℕ} → i < length src → m ≡ sets l (at + 2 * i) (hex (getD src i 0 ∷ []))
+hex-more : (l src : List ℕ) (at i : ℕ) {m : List ℕ} → i < length src → m ≡ sets l (at + 2 * i) (hex (getD src i 0 ∷ []))
     → sets m (at + 2 * (i + 1)) (hex (drop (i + 1) src)) ≡ sets l (at + 2 * i) (hex (drop i src))
 unfolding hex
 hex-more l src at i {m} h e =
@@ -196,20 +197,20 @@ hex-more l src at i {m} h e =
     rw (e, f, drop-cons src i 0 h, add-one i)
 
 -- nothing is left
-pub hex-end : (l src : List ℕ) (at i : ℕ) → length src ≤ i → l ≡ sets l at (hex (drop i src))
+hex-end : (l src : List ℕ) (at i : ℕ) → length src ≤ i → l ≡ sets l at (hex (drop i src))
 unfolding hex
 hex-end l src at i h =
     let g : drop i src ≡ [] = drop-of-length-le src h in
     rw g
 
 -- all bytes are left
-pub highest-start : (l src : List ℕ) (at : ℕ) → sets l (at + 2 * 0) (hexHighest (take (length src - 0) src)) ≡ sets l at (hexHighest src)
+highest-start : (l src : List ℕ) (at : ℕ) → sets l (at + 2 * 0) (hexHighest (take (length src - 0) src)) ≡ sets l at (hexHighest src)
 highest-start l src at =
     let f : at + 2 * 0 ≡ at = omega arith in
     rw (f, take-all (length src - 0) src (omega arith))
 
 -- the same from the last byte on
-pub highest-more : (l src : List ℕ) (at i : ℕ) {m : List ℕ} → i < length src → m ≡ sets l (at + 2 * i) (hex (getD src (length src - 1 - i) 0 ∷ []))
+highest-more : (l src : List ℕ) (at i : ℕ) {m : List ℕ} → i < length src → m ≡ sets l (at + 2 * i) (hex (getD src (length src - 1 - i) 0 ∷ []))
     → sets m (at + 2 * (i + 1)) (hexHighest (take (length src - (i + 1)) src)) ≡ sets l (at + 2 * i) (hexHighest (take (length src - i) src))
 unfolding hex
 highest-more l src at i {m} h e =
@@ -220,11 +221,42 @@ highest-more l src at i {m} h e =
     rw (e, f, k, n, take-suc src j 0 (omega arith), highest-last (take j src) (getD src j 0)) (sym (sets-append (hex (getD src j 0 ∷ [])) (hexHighest (take j src)) l (at + 2 * i)))
 
 -- nothing is left
-pub highest-end : (l src : List ℕ) (at i : ℕ) → length src ≤ i → l ≡ sets l at (hexHighest (take (length src - i) src))
+highest-end : (l src : List ℕ) (at i : ℕ) → length src ≤ i → l ≡ sets l at (hexHighest (take (length src - i) src))
 unfolding hexHighest
 highest-end l src at i h =
     let g : length src - i ≡ 0 = omega arith in
     rw g
+
+-- in either order, what is left to write behind i bytes
+unfoldable pub hexLeft : Bool → List ℕ → ℕ → List ℕ
+hexLeft b src i = cond b (hexHighest (take (length src - i) src)) (hex (drop i src))
+
+pub by-length : (b : Bool) (s : List ℕ) → length (hexBy b s) ≡ 2 * length s
+by-length true s = highest-length s
+by-length false s = hex-length s
+
+pub by-start : (b : Bool) (l src : List ℕ) (at : ℕ) → sets l (at + 2 * 0) (hexLeft b src 0) ≡ sets l at (hexBy b src)
+unfolding hexLeft
+by-start true l src at = highest-start l src at
+by-start false l src at =
+    let f : at + 2 * 0 ≡ at = omega arith in
+    rw f
+
+pub by-more : (b : Bool) (l src : List ℕ) (at i from : ℕ) {m : List ℕ} → i < length src → ((b ≡ true) × (from ≡ length src - 1 - i)) ⊎ ((b ≡ false) × (from ≡ i))
+    → m ≡ sets l (at + 2 * i) (hex (getD src from 0 ∷ []))
+    → sets m (at + 2 * (i + 1)) (hexLeft b src (i + 1)) ≡ sets l (at + 2 * i) (hexLeft b src i)
+unfolding hexLeft
+by-more b l src at i from h (inl x) e = rw (x .0) (highest-more l src at i h (rw (x .1) at e))
+by-more b l src at i from h (inr x) e = rw (x .0) (hex-more l src at i h (rw (x .1) at e))
+
+pub by-within : (b : Bool) (n i from : ℕ) → i < n → ((b ≡ true) × (from ≡ n - 1 - i)) ⊎ ((b ≡ false) × (from ≡ i)) → from < n
+by-within b n i from h (inl x) = omega (arith, x .1)
+by-within b n i from h (inr x) = omega (arith, x .1)
+
+pub by-end : (b : Bool) (l src : List ℕ) (at i : ℕ) → length src ≤ i → l ≡ sets l at (hexLeft b src i)
+unfolding hexLeft
+by-end true l src at i h = highest-end l src at i h
+by-end false l src at i h = hex-end l src at i h
 
 -- ---- lines
 

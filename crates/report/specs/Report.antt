@@ -1,6 +1,6 @@
 -- The text that the program `settle` prints; document 01, "Edges". Text is a list of character codes.
 use Prim.Native.Nat.{ℕ, zero, suc, _+_, _*_, _/_, _%_}
-use mathlib.Core.Bool.{cond}
+use mathlib.Core.Bool.{Bool, cond}
 use mathlib.Core.List.{List, [], _∷_, _++_}
 use lib.ListN.{length, getD, take, drop}
 use lib.Dec.{ltb}
@@ -37,6 +37,10 @@ hex (b ∷ bs) = hexDigit (b / 16) ∷ (hexDigit (b % 16) ∷ hex bs)
 unfoldable pub hexHighest : List ℕ → List ℕ
 hexHighest [] = []
 hexHighest (b ∷ bs) = hexHighest bs ++ hex (b ∷ [])
+
+-- in the bytes' order, or with the last byte first
+abbrev pub hexBy : Bool → List ℕ → List ℕ
+hexBy highest s = cond highest (hexHighest s) (hex s)
 
 -- ---- words
 

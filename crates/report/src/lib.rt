@@ -49,27 +49,16 @@ fn put_hex_byte(out: &mut [u8], at: usize, b: u8)
     put_byte(out, at + 1, hex_digit(b % 16));
 }
 
-// Two digits to a byte, in the bytes' order.
-fn put_hex(out: &mut [u8], at: usize, src: &[u8]) -> usize
+// Two digits to a byte, in the bytes' order, or with the last byte first, which is a number's highest.
+fn put_hex(out: &mut [u8], at: usize, src: &[u8], highest: bool) -> usize
     requires { ⌜ (at ≤ 1000000) × (length (now src) ≤ 1000) ⌝ }
-    ensures { λ r. ⌜ r ≡ at + length (S.hex (now (src .entry))) ⌝ }
-    ensures { λ _. ⌜ now (out .exit) ≡ sets (now (out .entry)) at (S.hex (now (src .entry))) ⌝ }
-{
-    for i in 0..src.len() {
-        put_hex_byte(out, at + 2 * i, src[i]);
-    }
-    at + 2 * src.len()
-}
-
-// The same with the last byte first.
-fn put_hex_highest(out: &mut [u8], at: usize, src: &[u8]) -> usize
-    requires { ⌜ (at ≤ 1000000) × (length (now src) ≤ 1000) ⌝ }
-    ensures { λ r. ⌜ r ≡ at + length (S.hexHighest (now (src .entry))) ⌝ }
-    ensures { λ _. ⌜ now (out .exit) ≡ sets (now (out .entry)) at (S.hexHighest (now (src .entry))) ⌝ }
+    ensures { λ r. ⌜ r ≡ at + length (S.hexBy highest (now (src .entry))) ⌝ }
+    ensures { λ _. ⌜ now (out .exit) ≡ sets (now (out .entry)) at (S.hexBy highest (now (src .entry))) ⌝ }
 {
     let n = src.len();
     for i in 0..n {
-        put_hex_byte(out, at + 2 * i, src[n - 1 - i]);
+        let from = if highest { n - 1 - i } else { i };
+        put_hex_byte(out, at + 2 * i, src[from]);
     }
     at + 2 * n
 }
@@ -112,7 +101,7 @@ fn put_tlc_line(out: &mut [u8], at: usize, i: usize, tlc: &[u8]) -> usize
     let place = put_word(out, at, b"tlc ");
     let behind = put_decimal(out, place, i);
     let hex = put_word(out, behind, b" ");
-    let end = put_hex(out, hex, tlc);
+    let end = put_hex(out, hex, tlc, false);
     put_word(out, end, b"\n")
 }
 
@@ -138,9 +127,9 @@ fn put_share_line(out: &mut [u8], at: usize, word: &[u8], share: &[u8]) -> usize
     ensures { λ _. ⌜ now (out .exit) ≡ sets (now (out .entry)) at (S.shareLine (now (word .entry)) (now (share .entry))) ⌝ }
 {
     let key = put_word(out, at, word);
-    let behind = put_hex(out, key, part_of(share, 0, 20));
+    let behind = put_hex(out, key, part_of(share, 0, 20), false);
     let amount = put_word(out, behind, b" ");
-    let end = put_hex_highest(out, amount, part_of(share, 20, 16));
+    let end = put_hex(out, amount, part_of(share, 20, 16), true);
     put_word(out, end, b"\n")
 }
 

@@ -1,56 +1,42 @@
--- Laws of `specs/Choose.antt`: numbers one behind the other, and a call of the choice by what it answers.
+-- Laws of `specs/Choose.antt`: the numbers of a choice, of a key and of a delay.
 -- Assumes nothing.
-use Prim.Native.Nat.{ℕ, suc, _+_, _*_, _≤_, _<_}
-use native.Mathlib.Numerals.{add-one}
-use native.Mathlib.Omega.{arith}
-use mathlib.Core.Path.{_≡_, sym, ap}
-use mathlib.Core.List.{List, _++_}
-use lib.ListN.{length, getD, drop, drop-of-length-le}
-use lib.Seq.{sets, drop-cons}
-use borrow.Author.Tests.{lt-ltb, le-ltb}
-use Rattle.fiber_bytes.specs.Bytes.{leBytes}
-use Rattle.fiber_bytes.proofs.BytesLaws.{leBytes-length, sets-append}
-use Rattle.fiber_choice.specs.declared.kinds.Handed.{Handed}
-use Rattle.fiber_choice.specs.declared.kinds.ChoiceAnswer.the-variants as answer·
-use Rattle.fiber_choice.specs.Choice.{ChoiceOutcome}
-use Rattle.settlement_c.specs.Settlement.{outCall}
-use Rattle.settlement_c.specs.Choose.{numbers, handedNumbers, saidChoice, chooseCall}
-use Rattle.types_c.proofs.AnswersLaws.{call-short, call-refused, call-fields}
-use Rattle.settlement_c.proofs.SettlementLaws.{Called}
+use Prim.Native.Nat.{ℕ}
+use mathlib.Core.Path.{_≡_, refl}
+use mathlib.Core.List.{[], _∷_}
+use lib.ListN.{getD}
+use Rattle.fiber_choice.specs.declared.kinds.Side.the-variants as side·
+use Rattle.fiber_choice.specs.declared.kinds.Way.the-variants as way·
+use Rattle.fiber_choice.specs.declared.kinds.Choice.the-variants as choice·
+use Rattle.fiber_choice.specs.declared.kinds.Key.{Key}
+use Rattle.fiber_choice.specs.declared.kinds.Key.the-variants as key·
+use Rattle.fiber_choice.specs.declared.kinds.Delay.{Delay}
+use Rattle.fiber_choice.specs.declared.kinds.Delay.the-variants as delay·
+use Rattle.fiber_choice.proofs.ByteLaws.{byte-remote, byte-local, byte-tlc}
+use Rattle.settlement_c.specs.Choose.{kindNumber, pairNumber, choiceNumbers, keyNumbers, delayNumbers}
 
--- one number more is written
-pub numbers-more : (l ns : List ℕ) (at i : ℕ) → i < length ns
-    → sets (sets l (at + 8 * i) (leBytes 8 (getD ns i 0))) (at + 8 * (i + 1)) (numbers (drop (i + 1) ns)) ≡ sets l (at + 8 * i) (numbers (drop i ns))
-unfolding numbers
-numbers-more l ns at i h =
-    let e : at + 8 * (i + 1) ≡ at + 8 * i + length (leBytes 8 (getD ns i 0)) = omega (arith, leBytes-length 8 (getD ns i 0)) in
-    rw (drop-cons ns i 0 h, e, add-one) (sym (sets-append (leBytes 8 (getD ns i 0)) (numbers (drop (suc i) ns)) l (at + 8 * i)))
+pub numbers-remote : choiceNumbers (choice·.Share side·.Remote) ≡ 0 ∷ (254 ∷ (0 ∷ []))
+unfolding choiceNumbers kindNumber pairNumber
+numbers-remote = rw byte-remote
 
--- all are
-pub numbers-end : (l ns : List ℕ) (at i : ℕ) → length ns ≤ i → sets l (at + 8 * i) (numbers (drop i ns)) ≡ l
-unfolding numbers
-numbers-end l ns at i h = rw (drop-of-length-le ns h)
+pub numbers-local : choiceNumbers (choice·.Share side·.Local) ≡ 0 ∷ (255 ∷ (0 ∷ []))
+unfolding choiceNumbers kindNumber pairNumber
+numbers-local = rw byte-local
 
--- the same numbers are the same stores
-pub numbers-of : (l : List ℕ) (at : ℕ) {ns ms : List ℕ} → ns ≡ ms → sets l at (numbers ns) ≡ sets l at (numbers ms)
-numbers-of l at e = ap (λ (x : List ℕ). sets l at (numbers x)) e
+pub numbers-timeout : (place : ℕ) → choiceNumbers (choice·.Tlc place way·.Timeout) ≡ 1 ∷ (place ∷ (0 ∷ []))
+unfolding choiceNumbers kindNumber pairNumber
+numbers-timeout place = rw (byte-tlc place way·.Timeout)
 
-module _ (o : ChoiceOutcome) (out answer : List ℕ) where
-  pub choose-short : length answer < 144 → Called (chooseCall o out answer) 14 out answer
-  unfolding chooseCall outCall
-  choose-short f =
-      let c = call-short 144 (saidChoice (o .answer)) answer f in
-      (c .0, (rw (lt-ltb (length answer) 144 f), c .1))
+pub numbers-preimage : (place pair : ℕ) → choiceNumbers (choice·.Tlc place (way·.Preimage pair)) ≡ 2 ∷ (place ∷ (pair ∷ []))
+unfolding choiceNumbers kindNumber pairNumber
+numbers-preimage place pair = rw (byte-tlc place (way·.Preimage pair))
 
-  module _ (f : 144 ≤ length answer) (b : List ℕ) (e : b ≡ o .bytes) where
-    pub choose-refused : (number place : ℕ) → answer·.Refused number place ≡ o .answer → (a : List ℕ) → a ≡ sets answer 0 (leBytes 8 number ++ leBytes 8 place) → Called (chooseCall o out answer) number b a
-    unfolding chooseCall outCall saidChoice
-    choose-refused number place g a s =
-        let c = call-refused 144 (saidChoice (o .answer)) answer f number place (sym (ap saidChoice g)) a s in
-        (c .0, (rw (le-ltb (length answer) 144 f) e, c .1))
+-- each number where it stands
+pub key-two : (k : Key) → keyNumbers k ≡ getD (keyNumbers k) 0 0 ∷ (getD (keyNumbers k) 1 0 ∷ [])
+unfolding keyNumbers
+key-two key·.Settlement = refl
+key-two (key·.Tlc place) = refl
 
-    pub choose-handed : (handed : Handed) → answer·.Chosen handed ≡ o .answer → (a : List ℕ) → a ≡ sets answer 0 ((leBytes 8 0 ++ leBytes 8 0) ++ numbers (handedNumbers handed)) → Called (chooseCall o out answer) 0 b a
-    unfolding chooseCall outCall saidChoice
-    choose-handed handed g a s =
-        let c = call-fields 144 (saidChoice (o .answer)) answer f (numbers (handedNumbers handed)) (sym (ap saidChoice g)) a s in
-        (c .0, (rw (le-ltb (length answer) 144 f) e, c .1))
+pub delay-four : (d : Delay) → delayNumbers d ≡ getD (delayNumbers d) 0 0 ∷ (getD (delayNumbers d) 1 0 ∷ (getD (delayNumbers d) 2 0 ∷ (getD (delayNumbers d) 3 0 ∷ [])))
+unfolding delayNumbers
+delay-four delay·.None = refl
+delay-four (delay·.Epoch e) = refl

@@ -1,44 +1,56 @@
--- The settlement operations over the C interface: the return value, every byte of the answer buffer and every byte of the output.
+-- The settlement operations over the C interface: each answer's size and fields, and the call on the C parameters in their order.
 use Prim.Native.Nat.{ℕ}
-use mathlib.Core.Bool.{cond}
-use mathlib.Core.List.{List, _++_}
-use lib.ListN.{length}
-use lib.Dec.{ltb}
-use Rattle.fiber_bytes.specs.Bytes.{leBytes}
+use mathlib.Core.Bool.{Bool}
+use mathlib.Core.List.{List, [], _∷_}
 use Rattle.fiber_types.specs.declared.answer.Written.{Written}
 use Rattle.fiber_types.specs.declared.answer.Written.the-variants as written·
 use Rattle.fiber_types.specs.Records.{Outcome}
 use Rattle.fiber_witness.specs.declared.witness.WitnessRead.{WitnessRead}
 use Rattle.fiber_witness.specs.declared.witness.WitnessRead.the-variants as read·
+use Rattle.fiber_witness.specs.Witness.{readWitness}
 use Rattle.fiber_witness.specs.Update.{updated}
-use Rattle.types_c.specs.Answers.{Said, refused, fields, Call, call}
+use Rattle.fiber_choice.specs.FirstRecords.{wroteFirstTlc, wroteFirst}
+use Rattle.types_c.specs.Answers.{Answer, refused, fields, numbers, call, answerCall}
+pub use Rattle.types_c.specs.Answers.{OutCall}
 
--- n, the number of unlocks, the places of the share part and of the first unlock: 48 bytes in all
-unfoldable pub saidRead : WitnessRead → Said
-saidRead (read·.Whole n unlocks share first) = fields (leBytes 8 n ++ leBytes 8 unlocks ++ leBytes 8 share ++ leBytes 8 first)
-saidRead (read·.Refused number place) = refused number place
+-- ---- the reader
 
--- the answer buffer of an update: number 8, place 8, length of the state left 8
+-- n, the number of unlocks, the places of the share part and of the first unlock
+abbrev pub readAnswerLen : ℕ
+readAnswerLen = 48
+
+unfoldable pub readAnswer : WitnessRead → Answer
+readAnswer (read·.Whole n unlocks share first) = fields (numbers (n ∷ (unlocks ∷ (share ∷ (first ∷ [])))))
+readAnswer (read·.Refused number place) = refused number place
+
+unfoldable pub readCall : ℕ → List ℕ → List ℕ → OutCall
+readCall h w buffer = answerCall readAnswerLen (readAnswer (readWitness h w)) buffer
+
+-- ---- the writers: update, and first records
+
+-- the length that was written
 abbrev pub updateAnswerLen : ℕ
 updateAnswerLen = 24
 
-unfoldable pub saidWritten : Written → Said
-saidWritten (written·.Bytes len) = fields (leBytes 8 len)
-saidWritten (written·.Refused number place) = refused number place
+unfoldable pub writtenAnswer : Written → Answer
+writtenAnswer (written·.Bytes len) = fields (numbers (len ∷ []))
+writtenAnswer (written·.Refused number place) = refused number place
 
--- a call with an output
-pub record OutCall : Type 0 where
-  pub status : ℕ
-  pub out : List ℕ
-  pub answer : List ℕ
-
-unfoldable pub outCall : Call → List ℕ → OutCall
-outCall c out = record { status = c .status; out = out; answer = c .answer }
-
--- a writer; a short answer buffer is 14 before anything is looked at
 unfoldable pub writtenCall : Outcome → List ℕ → List ℕ → OutCall
-writtenCall o out answer =
-    outCall (call updateAnswerLen (saidWritten (o .answer)) answer) (cond (ltb (length answer) updateAnswerLen) out (o .bytes))
+writtenCall o out buffer = call updateAnswerLen (writtenAnswer (o .answer)) (o .bytes) out buffer
 
 unfoldable pub updateCall : ℕ → List ℕ → List ℕ → List ℕ → OutCall
-updateCall h w out answer = writtenCall (updated h w out) out answer
+updateCall h w out buffer = writtenCall (updated h w out) out buffer
+
+unfoldable pub tlcWitnessCall : ℕ → Bool → List ℕ → List ℕ → List ℕ → OutCall
+tlcWitnessCall h forRemote tlc out buffer = writtenCall (wroteFirstTlc h forRemote tlc out) out buffer
+
+unfoldable pub dataWitnessCall : ℕ → Bool → ℕ → ℕ → ℕ → ℕ → List ℕ → List ℕ → List ℕ → List ℕ → List ℕ → OutCall
+dataWitnessCall h forRemote localLow localHigh remoteLow remoteHigh tlcs localKey remoteKey out buffer =
+    writtenCall (wroteFirst h forRemote (record {
+      tlcs = tlcs;
+      localAmount = record { low = localLow; high = localHigh };
+      remoteAmount = record { low = remoteLow; high = remoteHigh };
+      localKey = localKey;
+      remoteKey = remoteKey;
+    }) out) out buffer

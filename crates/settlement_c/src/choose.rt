@@ -1,33 +1,24 @@
 // The choice over C. Its answer is sixteen numbers behind the front.
-use fiber_bytes::put_le64;
 use fiber_types::epoch::Epoch;
 use fiber_types::tlc::Amount;
-use types_c::front::put_front;
+use types_c::front::accept;
+use types_c::front::refuse;
 use watchtower::choice;
-use watchtower::choice::Asked;
 use watchtower::choice::Choice;
 use watchtower::choice::ChoiceAnswer;
+use watchtower::choice::Decision;
 use watchtower::choice::Delay;
-use watchtower::choice::Handed;
 use watchtower::choice::Key;
+use watchtower::choice::Scalars;
 use watchtower::choice::Side;
 use watchtower::choice::Way;
 ghost use mathlib.Core.Path.{_≡_};
-ghost use Prim.Native.Nat.{_+_, _*_, _≤_};
-ghost use lib.ListN.{length};
-ghost use lib.Seq.{sets};
-ghost use Rattle.fiber_choice.specs.Choice.{caseOf, choiceOf};
+ghost use mathlib.Core.List.{[]};
+ghost use Rattle.types_c.specs.Answers.{answered, Leaves, LeavesAnswer};
 ghost use Rattle.settlement_c.specs.Choose as S;
 
-// Numbers one behind the other, eight bytes each.
-fn put_numbers(answer: &mut [u8], at: usize, numbers: [u64; 16])
-    requires { ⌜ at ≤ 1000 ⌝ }
-    ensures { λ _. ⌜ now (answer .exit) ≡ sets (now (answer .entry)) at (S.numbers numbers) ⌝ }
-{
-    for i in 0..16 {
-        put_le64(answer, at + 8 * i, numbers[i]);
-    }
-}
+// The bytes that the answer takes.
+pub const CHOOSE_ANSWER: usize = 144;
 
 // What the choice is: 0 a share, 1 a TLC by timeout, 2 a TLC by a preimage; the unlock's byte; the pair's place.
 fn choice_numbers(choice: Choice) -> [u64; 3]
@@ -65,16 +56,16 @@ fn delay_numbers(delay: Delay) -> [u64; 4]
     }
 }
 
-fn handed_numbers(handed: Handed) -> [u64; 16]
-    ensures { λ r. ⌜ r ≡ S.handedNumbers handed ⌝ }
+fn decision_numbers(decision: Decision) -> [u64; 16]
+    ensures { λ r. ⌜ r ≡ S.decisionNumbers decision ⌝ }
 {
-    let choice = handed.choice;
-    let key = handed.key;
-    let delay = handed.delay;
+    let choice = decision.choice;
+    let key = decision.key;
+    let delay = decision.delay;
     let c = choice_numbers(choice);
     let k = key_numbers(key);
     let d = delay_numbers(delay);
-    let amount = handed.amount;
+    let amount = decision.amount;
     [
         c[0],
         c[1],
@@ -86,13 +77,23 @@ fn handed_numbers(handed: Handed) -> [u64; 16]
         d[1],
         d[2],
         d[3],
-        handed.place as u64,
-        handed.len as u64,
-        handed.unlock as u64,
-        handed.state as u64,
-        handed.args as u64,
+        decision.place as u64,
+        decision.len as u64,
+        decision.unlock as u64,
+        decision.state as u64,
+        decision.args as u64,
         c[2],
     ]
+}
+
+fn answer_choice(answer: &mut [u8], choice: ChoiceAnswer) -> u64
+    ensures { λ r. ⌜ LeavesAnswer (answered (S.chooseAnswer choice) [] (now (answer .entry))) r (now (answer .exit)) ⌝ }
+{
+    match choice {
+        ChoiceAnswer::Chosen(decision) => accept(answer, &decision_numbers(decision)),
+        ChoiceAnswer::Wait { number, place } => refuse(answer, number, place),
+        ChoiceAnswer::Refused { number, place } => refuse(answer, number, place),
+    }
 }
 
 // Chooses an unlock. With is_later the settlement is a later one, and its witness is looked at.
@@ -122,14 +123,17 @@ pub extern "C" fn fiber_settlement_choose(
     out: &mut [u8],
     answer: &mut [u8],
 ) -> u64
-    ensures { λ r. ⌜ r ≡ S.chooseCall (choiceOf (caseOf (S.askedOf h «for_remote» time (record { number = «header_number»; index = «header_index»; length = «header_length» }) (record { number = «current_number»; index = «current_index»; length = «current_length» }) (record { low = «local_low»; high = «local_high» }) (record { low = «remote_low»; high = «remote_high» })) (now (args .entry)) (now (tlcs .entry)) (now («local_key» .entry)) (now («remote_key» .entry)) (now (tracked .entry)) (now (preimages .entry))) «is_later» (now (witness .entry)) (now (out .entry))) (now (out .entry)) (now (answer .entry)) .status ⌝ }
-    ensures { λ _. ⌜ now (out .exit) ≡ S.chooseCall (choiceOf (caseOf (S.askedOf h «for_remote» time (record { number = «header_number»; index = «header_index»; length = «header_length» }) (record { number = «current_number»; index = «current_index»; length = «current_length» }) (record { low = «local_low»; high = «local_high» }) (record { low = «remote_low»; high = «remote_high» })) (now (args .entry)) (now (tlcs .entry)) (now («local_key» .entry)) (now («remote_key» .entry)) (now (tracked .entry)) (now (preimages .entry))) «is_later» (now (witness .entry)) (now (out .entry))) (now (out .entry)) (now (answer .entry)) .out ⌝ }
-    ensures { λ _. ⌜ now (answer .exit) ≡ S.chooseCall (choiceOf (caseOf (S.askedOf h «for_remote» time (record { number = «header_number»; index = «header_index»; length = «header_length» }) (record { number = «current_number»; index = «current_index»; length = «current_length» }) (record { low = «local_low»; high = «local_high» }) (record { low = «remote_low»; high = «remote_high» })) (now (args .entry)) (now (tlcs .entry)) (now («local_key» .entry)) (now («remote_key» .entry)) (now (tracked .entry)) (now (preimages .entry))) «is_later» (now (witness .entry)) (now (out .entry))) (now (out .entry)) (now (answer .entry)) .answer ⌝ }
+    ensures { λ r. ⌜ Leaves (S.chooseCall h «for_remote» «is_later» time
+        «header_number» «header_index» «header_length» «current_number» «current_index» «current_length»
+        «local_low» «local_high» «remote_low» «remote_high»
+        (now (args .entry)) (now (tlcs .entry)) (now («local_key» .entry)) (now («remote_key» .entry)) (now (tracked .entry)) (now (preimages .entry))
+        (now (witness .entry)) (now (out .entry)) (now (answer .entry)))
+        r (now (out .exit)) (now (answer .exit)) ⌝ }
 {
-    if answer.len() < 144 {
+    if answer.len() < CHOOSE_ANSWER {
         return 14;
     }
-    let asked = Asked {
+    let scalars = Scalars {
         h: h as usize,
         for_remote,
         time,
@@ -152,8 +156,8 @@ pub extern "C" fn fiber_settlement_choose(
             high: remote_high,
         },
     };
-    match choice::choose(
-        asked,
+    let chosen = choice::choose(
+        scalars,
         is_later,
         args,
         tlcs,
@@ -163,15 +167,6 @@ pub extern "C" fn fiber_settlement_choose(
         preimages,
         witness,
         out,
-    ) {
-        ChoiceAnswer::Chosen(handed) => {
-            put_front(answer, 0, 0);
-            put_numbers(answer, 16, handed_numbers(handed));
-            0
-        }
-        ChoiceAnswer::Refused { number, place } => {
-            put_front(answer, number as u64, place as u64);
-            number as u64
-        }
-    }
+    );
+    answer_choice(answer, chosen)
 }

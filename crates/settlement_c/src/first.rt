@@ -1,12 +1,10 @@
-// Exports for tests: first records. Their answers are those of an update: number, place, and the length that was written.
-use fiber_bytes::put_le64;
-use fiber_types::answer::Written;
+// Exports for tests: first records. Their answers are those of an update.
+use crate::written::UPDATE_ANSWER;
+use crate::written::answer_written;
 use fiber_types::tlc::Amount;
-use types_c::front::put_front;
 use watchtower::first;
-ghost use mathlib.Core.Path.{_≡_};
-ghost use Rattle.fiber_choice.specs.First.{wroteFirstTlc, wroteFirst};
-ghost use Rattle.settlement_c.specs.Settlement.{writtenCall};
+ghost use Rattle.types_c.specs.Answers.{Leaves};
+ghost use Rattle.settlement_c.specs.Settlement as S;
 
 // The record of one settlement TLC.
 #[no_mangle]
@@ -17,24 +15,14 @@ pub extern "C" fn fiber_test_tlc_witness(
     out: &mut [u8],
     answer: &mut [u8],
 ) -> u64
-    ensures { λ r. ⌜ r ≡ writtenCall (wroteFirstTlc h «for_remote» (now (tlc .entry)) (now (out .entry))) (now (out .entry)) (now (answer .entry)) .status ⌝ }
-    ensures { λ _. ⌜ now (out .exit) ≡ writtenCall (wroteFirstTlc h «for_remote» (now (tlc .entry)) (now (out .entry))) (now (out .entry)) (now (answer .entry)) .out ⌝ }
-    ensures { λ _. ⌜ now (answer .exit) ≡ writtenCall (wroteFirstTlc h «for_remote» (now (tlc .entry)) (now (out .entry))) (now (out .entry)) (now (answer .entry)) .answer ⌝ }
+    ensures { λ r. ⌜ Leaves (S.tlcWitnessCall h «for_remote» (now (tlc .entry)) (now (out .entry)) (now (answer .entry)))
+        r (now (out .exit)) (now (answer .exit)) ⌝ }
 {
-    if answer.len() < 24 {
+    if answer.len() < UPDATE_ANSWER {
         return 14;
     }
-    match first::settlement_tlc_witness(h as usize, for_remote, tlc, out) {
-        Written::Bytes(len) => {
-            put_front(answer, 0, 0);
-            put_le64(answer, 16, len as u64);
-            0
-        }
-        Written::Refused { number, place } => {
-            put_front(answer, number as u64, place as u64);
-            number as u64
-        }
-    }
+    let written = first::settlement_tlc_witness(h as usize, for_remote, tlc, out);
+    answer_written(answer, written)
 }
 
 // The first state.
@@ -52,10 +40,13 @@ pub extern "C" fn fiber_test_data_witness(
     out: &mut [u8],
     answer: &mut [u8],
 ) -> u64
-    ensures { λ r. ⌜ r ≡ writtenCall (wroteFirst h «for_remote» (record { tlcs = now (tlcs .entry); localAmount = record { low = «local_low»; high = «local_high» }; remoteAmount = record { low = «remote_low»; high = «remote_high» }; localKey = now («local_key» .entry); remoteKey = now («remote_key» .entry) }) (now (out .entry))) (now (out .entry)) (now (answer .entry)) .status ⌝ }
-    ensures { λ _. ⌜ now (out .exit) ≡ writtenCall (wroteFirst h «for_remote» (record { tlcs = now (tlcs .entry); localAmount = record { low = «local_low»; high = «local_high» }; remoteAmount = record { low = «remote_low»; high = «remote_high» }; localKey = now («local_key» .entry); remoteKey = now («remote_key» .entry) }) (now (out .entry))) (now (out .entry)) (now (answer .entry)) .out ⌝ }
-    ensures { λ _. ⌜ now (answer .exit) ≡ writtenCall (wroteFirst h «for_remote» (record { tlcs = now (tlcs .entry); localAmount = record { low = «local_low»; high = «local_high» }; remoteAmount = record { low = «remote_low»; high = «remote_high» }; localKey = now («local_key» .entry); remoteKey = now («remote_key» .entry) }) (now (out .entry))) (now (out .entry)) (now (answer .entry)) .answer ⌝ }
+    ensures { λ r. ⌜ Leaves (S.dataWitnessCall h «for_remote» «local_low» «local_high» «remote_low» «remote_high»
+        (now (tlcs .entry)) (now («local_key» .entry)) (now («remote_key» .entry)) (now (out .entry)) (now (answer .entry)))
+        r (now (out .exit)) (now (answer .exit)) ⌝ }
 {
+    if answer.len() < UPDATE_ANSWER {
+        return 14;
+    }
     let local = Amount {
         low: local_low,
         high: local_high,
@@ -64,10 +55,7 @@ pub extern "C" fn fiber_test_data_witness(
         low: remote_low,
         high: remote_high,
     };
-    if answer.len() < 24 {
-        return 14;
-    }
-    match first::settlement_data_witness(
+    let written = first::settlement_data_witness(
         h as usize,
         for_remote,
         tlcs,
@@ -76,15 +64,6 @@ pub extern "C" fn fiber_test_data_witness(
         local_key,
         remote_key,
         out,
-    ) {
-        Written::Bytes(len) => {
-            put_front(answer, 0, 0);
-            put_le64(answer, 16, len as u64);
-            0
-        }
-        Written::Refused { number, place } => {
-            put_front(answer, number as u64, place as u64);
-            number as u64
-        }
-    }
+    );
+    answer_written(answer, written)
 }

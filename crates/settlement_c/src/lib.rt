@@ -3,3 +3,4 @@
 pub mod choose;
 pub mod first;
 pub mod settlement;
+pub mod written;

@@ -1,23 +1,23 @@
 // The settlement operations. Every offset of every answer buffer stands in include/fiber_settlement.h.
-use fiber_bytes::put_le64;
-use fiber_types::answer::Written;
-use types_c::front::put_front;
-use types_c::front::put_two;
+use crate::written::UPDATE_ANSWER;
+use crate::written::answer_written;
+use types_c::front::accept;
+use types_c::front::refuse;
 use watchtower::update;
 use watchtower::witness;
 use watchtower::witness::WitnessRead;
-ghost use mathlib.Core.Path.{_≡_};
-ghost use Rattle.fiber_witness.specs.Witness.{readWitness};
-ghost use Rattle.types_c.specs.Answers.{call};
+ghost use Rattle.types_c.specs.Answers.{Leaves, LeavesAnswer};
 ghost use Rattle.settlement_c.specs.Settlement as S;
+
+// The bytes that the reader's answer takes.
+pub const READ_ANSWER: usize = 48;
 
 // Reads a witness w of a channel whose hashes have h bytes.
 #[no_mangle]
 pub extern "C" fn fiber_settlement_read(h: u64, w: &[u8], answer: &mut [u8]) -> u64
-    ensures { λ r. ⌜ r ≡ call 48 (S.saidRead (readWitness h (now (w .entry)))) (now (answer .entry)) .status ⌝ }
-    ensures { λ _. ⌜ now (answer .exit) ≡ call 48 (S.saidRead (readWitness h (now (w .entry)))) (now (answer .entry)) .answer ⌝ }
+    ensures { λ r. ⌜ LeavesAnswer (S.readCall h (now (w .entry)) (now (answer .entry))) r (now (answer .exit)) ⌝ }
 {
-    if answer.len() < 48 {
+    if answer.len() < READ_ANSWER {
         return 14;
     }
     match witness::read(h as usize, w) {
@@ -26,16 +26,11 @@ pub extern "C" fn fiber_settlement_read(h: u64, w: &[u8], answer: &mut [u8]) -> 
             unlocks,
             share,
             first,
-        } => {
-            put_two(answer, n as u64, unlocks as u64);
-            put_le64(answer, 32, share as u64);
-            put_le64(answer, 40, first as u64);
-            0
-        }
-        WitnessRead::Refused { number, place } => {
-            put_front(answer, number as u64, place as u64);
-            number as u64
-        }
+        } => accept(
+            answer,
+            &[n as u64, unlocks as u64, share as u64, first as u64],
+        ),
+        WitnessRead::Refused { number, place } => refuse(answer, number, place),
     }
 }
 
@@ -47,22 +42,11 @@ pub extern "C" fn fiber_settlement_update(
     out: &mut [u8],
     answer: &mut [u8],
 ) -> u64
-    ensures { λ r. ⌜ r ≡ S.updateCall h (now (w .entry)) (now (out .entry)) (now (answer .entry)) .status ⌝ }
-    ensures { λ _. ⌜ now (out .exit) ≡ S.updateCall h (now (w .entry)) (now (out .entry)) (now (answer .entry)) .out ⌝ }
-    ensures { λ _. ⌜ now (answer .exit) ≡ S.updateCall h (now (w .entry)) (now (out .entry)) (now (answer .entry)) .answer ⌝ }
+    ensures { λ r. ⌜ Leaves (S.updateCall h (now (w .entry)) (now (out .entry)) (now (answer .entry))) r (now (out .exit)) (now (answer .exit)) ⌝ }
 {
-    if answer.len() < 24 {
+    if answer.len() < UPDATE_ANSWER {
         return 14;
     }
-    match update::update(h as usize, w, out) {
-        Written::Bytes(len) => {
-            put_front(answer, 0, 0);
-            put_le64(answer, 16, len as u64);
-            0
-        }
-        Written::Refused { number, place } => {
-            put_front(answer, number as u64, place as u64);
-            number as u64
-        }
-    }
+    let written = update::update(h as usize, w, out);
+    answer_written(answer, written)
 }

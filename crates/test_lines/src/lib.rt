@@ -1,4 +1,4 @@
-// Reads lists of test cases for the programs `vectors` and `replay`, and for no other crate: a case to a line, fields parted by single blanks.
+// Reads lists of test cases for the programs `vectors`, `replay` and `forms`, and for no other crate: a case to a line, fields parted by single blanks.
 // Uses nothing.
 use std::num::wrapping_add_u64;
 ghost use mathlib.Core.Path.{_≡_};

@@ -1,62 +1,77 @@
--- Laws of `specs/Answers.antt`: a call by what was said, and its fields one behind the other.
+-- Laws of `specs/Answers.antt`: numbers one behind the other, and a call by its answer.
 -- Assumes nothing.
-use Prim.Native.Nat.{ℕ, _+_, _≤_, _<_}
+use Prim.Native.Nat.{ℕ, suc, _+_, _*_, _≤_, _<_}
+use native.Mathlib.Numerals.{add-one}
 use native.Mathlib.Omega.{arith}
-use mathlib.Core.Path.{_≡_, sym, ap, _∙_}
-use mathlib.Core.List.{List, _++_, append-assoc}
-use lib.ListN.{length, length-append}
-use lib.Seq.{sets}
+use mathlib.Core.Path.{_≡_, refl, sym, ap}
+use mathlib.Core.List.{List, [], _++_}
+use lib.ListN.{length, getD, drop, drop-of-length-le, length-append}
+use lib.Seq.{sets, drop-cons}
 use borrow.Author.Tests.{lt-ltb, le-ltb}
 use Rattle.fiber_bytes.specs.Bytes.{leBytes}
-use Rattle.fiber_bytes.proofs.BytesLaws.{leBytes-length, sets-then}
+use Rattle.fiber_bytes.proofs.BytesLaws.{leBytes-length, sets-append, sets-then}
 use Rattle.fiber_types.specs.declared.key.KeyAnswer.{KeyAnswer}
 use Rattle.fiber_types.specs.declared.key.KeyHash.{KeyHash}
 use Rattle.fiber_types.specs.Key.{keyHash}
-use Rattle.types_c.specs.Answers.{Said, refused, fields, told, call, saidKeyAnswer, saidKey}
+use Rattle.types_c.specs.Answers.{Answer, refused, fields, answered, call, Leaves, LeavesAnswer, numbers, keyAnswer}
 
 -- ---- one number behind the other
 
 pub pair-length : (a b : ℕ) → length (leBytes 8 a ++ leBytes 8 b) ≡ 16
 pair-length a b = omega (arith, length-append (leBytes 8 a) (leBytes 8 b), leBytes-length 8 a, leBytes-length 8 b)
 
-pub triple-length : (a b c : ℕ) → length (leBytes 8 a ++ leBytes 8 b ++ leBytes 8 c) ≡ 24
-triple-length a b c = omega (arith, length-append (leBytes 8 a ++ leBytes 8 b) (leBytes 8 c), pair-length a b, leBytes-length 8 c)
-
 module _ (o : List ℕ) where
-  pub front-by : (o₁ o₂ : List ℕ) (number place : ℕ) → o₁ ≡ sets o 0 (leBytes 8 number) → o₂ ≡ sets o₁ 8 (leBytes 8 place) → o₂ ≡ sets o 0 (leBytes 8 number ++ leBytes 8 place)
+  pub front-by : (o₁ o₂ : List ℕ) (number place : ℕ) → o₁ ≡ sets o 0 (leBytes 8 number) → o₂ ≡ sets o₁ 8 (leBytes 8 place)
+      → o₂ ≡ sets o 0 (leBytes 8 number ++ leBytes 8 place)
   front-by o₁ o₂ number place e f = sets-then o (leBytes 8 number) (leBytes 8 place) 8 e f (sym (leBytes-length 8 number))
 
   -- fields right behind the front
-  pub behind : (bytes : List ℕ) {o₁ o₂ : List ℕ} → o₁ ≡ sets o 0 (leBytes 8 0 ++ leBytes 8 0) → o₂ ≡ sets o₁ 16 bytes → o₂ ≡ sets o 0 ((leBytes 8 0 ++ leBytes 8 0) ++ bytes)
+  pub behind : (bytes : List ℕ) {o₁ o₂ : List ℕ} → o₁ ≡ sets o 0 (leBytes 8 0 ++ leBytes 8 0) → o₂ ≡ sets o₁ 16 bytes
+      → o₂ ≡ sets o 0 ((leBytes 8 0 ++ leBytes 8 0) ++ bytes)
   behind bytes e f = sets-then o (leBytes 8 0 ++ leBytes 8 0) bytes 16 e f (sym (pair-length 0 0))
 
-  -- more fields behind fields of n bytes
-  pub more : (a b : List ℕ) (n : ℕ) {o₁ o₂ : List ℕ} → o₁ ≡ sets o 0 ((leBytes 8 0 ++ leBytes 8 0) ++ a) → length a ≡ n → o₂ ≡ sets o₁ (16 + n) b
-      → o₂ ≡ sets o 0 ((leBytes 8 0 ++ leBytes 8 0) ++ (a ++ b))
-  more a b n e g f =
-      let z = leBytes 8 0 ++ leBytes 8 0 in
-      sets-then o (z ++ a) b (16 + n) e f (omega (arith, length-append z a, pair-length 0 0, g))
-      ∙ ap (sets o 0) (append-assoc z a b)
+-- one number more is written, at its place
+pub numbers-more : (l ns : List ℕ) (at i place : ℕ) → i < length ns → place ≡ at + 8 * i
+    → sets (sets l place (leBytes 8 (getD ns i 0))) (at + 8 * (i + 1)) (numbers (drop (i + 1) ns)) ≡ sets l (at + 8 * i) (numbers (drop i ns))
+unfolding numbers
+numbers-more l ns at i place h f =
+    let e : at + 8 * (i + 1) ≡ at + 8 * i + length (leBytes 8 (getD ns i 0)) = omega (arith, leBytes-length 8 (getD ns i 0)) in
+    rw (f, drop-cons ns i 0 h, e, add-one) (sym (sets-append (leBytes 8 (getD ns i 0)) (numbers (drop (suc i) ns)) l (at + 8 * i)))
 
--- ---- a call, by what was said
+-- all are
+pub numbers-end : (l ns : List ℕ) (at i : ℕ) → length ns ≤ i → sets l (at + 8 * i) (numbers (drop i ns)) ≡ l
+unfolding numbers
+numbers-end l ns at i h = rw (drop-of-length-le ns h)
 
-module _ (size : ℕ) (said : Said) (answer : List ℕ) where
-  pub call-short : length answer < size → (14 ≡ call size said answer .status) × (answer ≡ call size said answer .answer)
-  unfolding call
-  call-short h = (rw (lt-ltb (length answer) size h), rw (lt-ltb (length answer) size h))
+-- ---- an answer given
 
-  module _ (h : size ≤ length answer) where
-    pub call-refused : (number place : ℕ) → said ≡ refused number place → (answer′ : List ℕ) → answer′ ≡ sets answer 0 (leBytes 8 number ++ leBytes 8 place)
-        → (number ≡ call size said answer .status) × (answer′ ≡ call size said answer .answer)
-    unfolding call told
-    call-refused number place e answer′ f = (rw (le-ltb (length answer) size h, e), rw (le-ltb (length answer) size h, e) f)
+pub refused-by : (number place : ℕ) (buffer : List ℕ) {b : List ℕ} → b ≡ sets buffer 0 (leBytes 8 number ++ leBytes 8 place)
+    → LeavesAnswer (answered (refused number place) [] buffer) number b
+unfolding answered
+refused-by number place buffer e = rw e
 
-    pub call-fields : (bytes : List ℕ) → said ≡ fields bytes → (answer′ : List ℕ) → answer′ ≡ sets answer 0 ((leBytes 8 0 ++ leBytes 8 0) ++ bytes)
-        → (0 ≡ call size said answer .status) × (answer′ ≡ call size said answer .answer)
-    unfolding call told
-    call-fields bytes e answer′ f = (rw (le-ltb (length answer) size h, e), rw (le-ltb (length answer) size h, e) f)
+pub fields-by : (bytes buffer : List ℕ) {b : List ℕ} → b ≡ sets buffer 0 ((leBytes 8 0 ++ leBytes 8 0) ++ bytes) → LeavesAnswer (answered (fields bytes) [] buffer) 0 b
+unfolding answered
+fields-by bytes buffer e = rw e
+
+-- an output beside it changes nothing else
+pub answered-out : (a : Answer) (out buffer : List ℕ) → answered a out buffer ≡ record { status = answered a [] buffer .status; out = out; answer = answered a [] buffer .answer }
+unfolding answered
+answered-out (refused number place) out buffer = refl
+answered-out (fields bytes) out buffer = refl
+
+-- ---- a call
+
+pub call-short : (size : ℕ) (a : Answer) (written out buffer : List ℕ) → length buffer < size → Leaves (call size a written out buffer) 14 out buffer
+unfolding call
+call-short size a written out buffer h = rw (lt-ltb (length buffer) size h)
+
+-- the operation came to x, its answer was given, and the output is the operation's
+pub call-by : {X : Type 0} (size : ℕ) (answer : X → Answer) (x : X) (written out buffer : List ℕ) → size ≤ length buffer → (y : X) → y ≡ x
+    → {r : ℕ} {o b : List ℕ} → LeavesAnswer (answered (answer y) [] buffer) r b → o ≡ written → Leaves (call size (answer x) written out buffer) r o b
+unfolding call
+call-by size answer x written out buffer h y e g f = rw (le-ltb (length buffer) size h, ← e, answered-out (answer y) written buffer, g, f)
 
 -- a key's hash, by its answer
-pub key-said : (key : List ℕ) (k : KeyHash) → k ≡ keyHash key → (a : KeyAnswer) → k .answer ≡ a → saidKey (keyHash key) ≡ saidKeyAnswer a (k .bytes)
-unfolding saidKey
-key-said key k e a f = rw (← e, f)
+pub key-by : (key : List ℕ) (k : KeyHash) → k ≡ keyHash key → (a : KeyAnswer) → k .answer ≡ a → keyAnswer a (k .bytes) ≡ keyAnswer (keyHash key .answer) (keyHash key .bytes)
+key-by key k e a f = rw (← e, f)

@@ -1,8 +1,9 @@
--- Answers over the C interface. An answer buffer holds number 8, place 8, then the operation's fields, little-endian. The return value is
--- the number, 0 for success.
+-- Answers over the C interface, and what a call leaves. An answer buffer holds number 8, place 8, then the operation's fields, little-endian.
+-- The return value is the number, 0 for success.
 use Prim.Native.Nat.{ℕ}
+use mathlib.Core.Path.{_≡_}
 use mathlib.Core.Bool.{cond}
-use mathlib.Core.List.{List, _++_}
+use mathlib.Core.List.{List, [], _∷_, _++_}
 use lib.ListN.{length}
 use lib.Seq.{sets}
 use lib.Dec.{ltb}
@@ -15,49 +16,96 @@ use Rattle.fiber_since.specs.declared.since.Expiry.{Expiry}
 use Rattle.fiber_since.specs.declared.since.Expiry.the-variants as expiry·
 use Rattle.fiber_types.specs.declared.key.KeyAnswer.{KeyAnswer}
 use Rattle.fiber_types.specs.declared.key.KeyAnswer.the-variants as key·
-use Rattle.fiber_types.specs.declared.key.KeyHash.{KeyHash}
+use Rattle.fiber_since.specs.Epoch.{scaled, dueTest}
+use Rattle.fiber_since.specs.Since.{absoluteExpiry}
+use Rattle.fiber_types.specs.Key.{keyHash}
 use Rattle.fiber_bytes.specs.Bytes.{leBytes}
 
--- what an operation says: turned down, or its fields
-pub data Said : Type 0 where
-  refused : ℕ → ℕ → Said
-  fields : List ℕ → Said
+-- an operation's answer: refused with number and place, or its fields
+pub data Answer : Type 0 where
+  refused : ℕ → ℕ → Answer
+  fields : List ℕ → Answer
 
--- the return value, and the answer buffer as the call leaves it
-pub record Call : Type 0 where
+-- what a call leaves: the return value, the output, the answer buffer
+pub record OutCall : Type 0 where
   pub status : ℕ
+  pub out : List ℕ
   pub answer : List ℕ
 
-unfoldable pub told : Said → List ℕ → Call
-told (refused number place) answer = record { status = number; answer = sets answer 0 (leBytes 8 number ++ leBytes 8 place) }
-told (fields bytes) answer = record { status = 0; answer = sets answer 0 ((leBytes 8 0 ++ leBytes 8 0) ++ bytes) }
+-- an answer given, beside an output
+unfoldable pub answered : Answer → List ℕ → List ℕ → OutCall
+answered (refused number place) out buffer = record { status = number; out = out; answer = sets buffer 0 (leBytes 8 number ++ leBytes 8 place) }
+answered (fields bytes) out buffer = record { status = 0; out = out; answer = sets buffer 0 ((leBytes 8 0 ++ leBytes 8 0) ++ bytes) }
 
--- a buffer shorter than the operation's answer is 14, by the return value alone
-unfoldable pub call : ℕ → Said → List ℕ → Call
-call size said answer = cond (ltb (length answer) size) (record { status = 14; answer = answer }) (told said answer)
+-- A call of an operation that makes `written` of the output. A buffer shorter than the answer is 14, by the return value alone, before anything
+-- is looked at.
+unfoldable pub call : ℕ → Answer → List ℕ → List ℕ → List ℕ → OutCall
+call size a written out buffer = cond (ltb (length buffer) size) (record { status = 14; out = out; answer = buffer }) (answered a written buffer)
+
+-- a call leaves this return value, this output and this answer buffer
+abbrev pub Leaves : OutCall → ℕ → List ℕ → List ℕ → Type 0
+Leaves c r out buffer = c ≡ record { status = r; out = out; answer = buffer }
+
+-- the same where there is no output
+abbrev pub answerCall : ℕ → Answer → List ℕ → OutCall
+answerCall size a buffer = call size a [] [] buffer
+
+abbrev pub LeavesAnswer : OutCall → ℕ → List ℕ → Type 0
+LeavesAnswer c r buffer = Leaves c r [] buffer
 
 -- ---- fields
 
--- number, index, length: 40 bytes in all
-unfoldable pub saidScaled : Scaled → Said
-saidScaled (scaled·.Epoch e) = fields (leBytes 8 (e .number) ++ leBytes 8 (e .index) ++ leBytes 8 (e .length))
-saidScaled (scaled·.Refused number place) = refused number place
+-- numbers one behind the other, eight bytes each
+unfoldable pub numbers : List ℕ → List ℕ
+numbers [] = []
+numbers (x ∷ xs) = leBytes 8 x ++ numbers xs
 
--- 1 where it is due, else 0: 24 bytes in all
-unfoldable pub saidDue : DueTest → Said
-saidDue due·.Due = fields (leBytes 8 1)
-saidDue due·.NotDue = fields (leBytes 8 0)
-saidDue (due·.Refused number place) = refused number place
+-- ---- the exports: each answer's size and fields, and the call on the C parameters in their order
 
--- 1 and the expiry in milliseconds, or 0 and 0: 32 bytes in all
-unfoldable pub saidExpiry : Expiry → Said
-saidExpiry (expiry·.At ms) = fields (leBytes 8 1 ++ leBytes 8 ms)
-saidExpiry expiry·.None = fields (leBytes 8 0 ++ leBytes 8 0)
+abbrev epoch : ℕ → ℕ → ℕ → Epoch
+epoch number index length = record { number = number; index = index; length = length }
 
--- the 20 bytes of the hash: 36 bytes in all
-unfoldable pub saidKeyAnswer : KeyAnswer → List ℕ → Said
-saidKeyAnswer key·.Taken bytes = fields bytes
-saidKeyAnswer (key·.Refused number place) bytes = refused number place
+-- number, index, length
+abbrev pub mulAnswerLen : ℕ
+mulAnswerLen = 40
 
-unfoldable pub saidKey : KeyHash → Said
-saidKey k = saidKeyAnswer (k .answer) (k .bytes)
+unfoldable pub mulAnswer : Scaled → Answer
+mulAnswer (scaled·.Epoch e) = fields (numbers (e .number ∷ (e .index ∷ (e .length ∷ []))))
+mulAnswer (scaled·.Refused number place) = refused number place
+
+unfoldable pub mulCall : ℕ → ℕ → ℕ → ℕ → ℕ → List ℕ → OutCall
+mulCall number index length numerator denominator buffer = answerCall mulAnswerLen (mulAnswer (scaled (epoch number index length) numerator denominator)) buffer
+
+-- 1 where it is due, else 0
+abbrev pub isDueAnswerLen : ℕ
+isDueAnswerLen = 24
+
+unfoldable pub isDueAnswer : DueTest → Answer
+isDueAnswer due·.Due = fields (numbers (1 ∷ []))
+isDueAnswer due·.NotDue = fields (numbers (0 ∷ []))
+isDueAnswer (due·.Refused number place) = refused number place
+
+unfoldable pub isDueCall : ℕ → ℕ → ℕ → ℕ → ℕ → ℕ → ℕ → ℕ → ℕ → List ℕ → OutCall
+isDueCall a b c d e f g h i buffer = answerCall isDueAnswerLen (isDueAnswer (dueTest (epoch a b c) (epoch d e f) (epoch g h i))) buffer
+
+-- 1 and the expiry in milliseconds, or 0 and 0
+abbrev pub expiryAnswerLen : ℕ
+expiryAnswerLen = 32
+
+unfoldable pub expiryAnswer : Expiry → Answer
+expiryAnswer (expiry·.At ms) = fields (numbers (1 ∷ (ms ∷ [])))
+expiryAnswer expiry·.None = fields (numbers (0 ∷ (0 ∷ [])))
+
+unfoldable pub expiryCall : ℕ → List ℕ → OutCall
+expiryCall since buffer = answerCall expiryAnswerLen (expiryAnswer (absoluteExpiry since)) buffer
+
+-- the 20 bytes of the hash
+abbrev pub keyAnswerLen : ℕ
+keyAnswerLen = 36
+
+unfoldable pub keyAnswer : KeyAnswer → List ℕ → Answer
+keyAnswer key·.Taken bytes = fields bytes
+keyAnswer (key·.Refused number place) bytes = refused number place
+
+unfoldable pub keyCall : List ℕ → List ℕ → OutCall
+keyCall key buffer = answerCall keyAnswerLen (keyAnswer (keyHash key .answer) (keyHash key .bytes)) buffer

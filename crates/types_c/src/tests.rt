@@ -1,8 +1,8 @@
 // The exports of the lower face, for tests and benchmarks alone, under names that say so.
+use crate::front::accept;
 use crate::front::put_front;
-use crate::front::put_two;
+use crate::front::refuse;
 use fiber_bytes::put;
-use fiber_bytes::put_le64;
 use fiber_types::epoch::DueTest;
 use fiber_types::epoch::Epoch;
 use fiber_types::epoch::Scaled;
@@ -13,17 +13,18 @@ use fiber_types::key::key_hash;
 use fiber_types::since::Expiry;
 use fiber_types::since::absolute_expiry;
 ghost use mathlib.Core.Path.{_≡_};
-ghost use mathlib.Core.List.{_++_};
-ghost use Prim.Native.Nat.{ℕ, _≤_};
-ghost use lib.ListN.{length};
-ghost use lib.Seq.{sets};
-ghost use Rattle.fiber_bytes.specs.Bytes.{leBytes};
 ghost use Rattle.fiber_blake2b.specs.Blake2b.{ckbHash};
 ghost use Rattle.fiber_sha256.specs.Sha256 as Sha256;
-ghost use Rattle.fiber_since.specs.Epoch.{scaled, dueTest};
-ghost use Rattle.fiber_since.specs.Since.{absoluteExpiry};
-ghost use Rattle.fiber_types.specs.Key.{keyHash};
 ghost use Rattle.types_c.specs.Answers as S;
+
+// The bytes that each answer takes.
+pub const MUL_ANSWER: usize = 40;
+
+pub const IS_DUE_ANSWER: usize = 24;
+
+pub const EXPIRY_ANSWER: usize = 32;
+
+pub const KEY_ANSWER: usize = 36;
 
 #[no_mangle]
 pub extern "C" fn fiber_test_ckb_hash(s: &[u8], out: &mut [u8; 32])
@@ -49,10 +50,9 @@ pub extern "C" fn fiber_test_mul(
     denominator: u64,
     answer: &mut [u8],
 ) -> u64
-    ensures { λ r. ⌜ r ≡ S.call 40 (S.saidScaled (scaled (record { number = number; index = index; length = length }) numerator denominator)) (now (answer .entry)) .status ⌝ }
-    ensures { λ _. ⌜ now (answer .exit) ≡ S.call 40 (S.saidScaled (scaled (record { number = number; index = index; length = length }) numerator denominator)) (now (answer .entry)) .answer ⌝ }
+    ensures { λ r. ⌜ S.LeavesAnswer (S.mulCall number index length numerator denominator (now (answer .entry))) r (now (answer .exit)) ⌝ }
 {
-    if answer.len() < 40 {
+    if answer.len() < MUL_ANSWER {
         return 14;
     }
     let delay = Epoch {
@@ -61,15 +61,8 @@ pub extern "C" fn fiber_test_mul(
         length,
     };
     match mul(delay, numerator, denominator) {
-        Scaled::Epoch(e) => {
-            put_two(answer, e.number, e.index);
-            put_le64(answer, 32, e.length);
-            0
-        }
-        Scaled::Refused { number, place } => {
-            put_front(answer, number as u64, place as u64);
-            number as u64
-        }
+        Scaled::Epoch(e) => accept(answer, &[e.number, e.index, e.length]),
+        Scaled::Refused { number, place } => refuse(answer, number, place),
     }
 }
 
@@ -87,10 +80,9 @@ pub extern "C" fn fiber_test_is_due(
     i: u64,
     answer: &mut [u8],
 ) -> u64
-    ensures { λ r. ⌜ r ≡ S.call 24 (S.saidDue (dueTest (record { number = a; index = b; length = c }) (record { number = d; index = e; length = f }) (record { number = g; index = h; length = i }))) (now (answer .entry)) .status ⌝ }
-    ensures { λ _. ⌜ now (answer .exit) ≡ S.call 24 (S.saidDue (dueTest (record { number = a; index = b; length = c }) (record { number = d; index = e; length = f }) (record { number = g; index = h; length = i }))) (now (answer .entry)) .answer ⌝ }
+    ensures { λ r. ⌜ S.LeavesAnswer (S.isDueCall a b c d e f g h i (now (answer .entry))) r (now (answer .exit)) ⌝ }
 {
-    if answer.len() < 24 {
+    if answer.len() < IS_DUE_ANSWER {
         return 14;
     }
     let header = Epoch {
@@ -109,60 +101,43 @@ pub extern "C" fn fiber_test_is_due(
         length: i,
     };
     match is_due(header, delay, current) {
-        DueTest::Due => {
-            put_front(answer, 0, 0);
-            put_le64(answer, 16, 1);
-            0
-        }
-        DueTest::NotDue => {
-            put_front(answer, 0, 0);
-            put_le64(answer, 16, 0);
-            0
-        }
-        DueTest::Refused { number, place } => {
-            put_front(answer, number as u64, place as u64);
-            number as u64
-        }
+        DueTest::Due => accept(answer, &[1]),
+        DueTest::NotDue => accept(answer, &[0]),
+        DueTest::Refused { number, place } => refuse(answer, number, place),
     }
 }
 
 // The expiry that a since value holds.
 #[no_mangle]
 pub extern "C" fn fiber_test_absolute_expiry(since: u64, answer: &mut [u8]) -> u64
-    ensures { λ r. ⌜ r ≡ S.call 32 (S.saidExpiry (absoluteExpiry since)) (now (answer .entry)) .status ⌝ }
-    ensures { λ _. ⌜ now (answer .exit) ≡ S.call 32 (S.saidExpiry (absoluteExpiry since)) (now (answer .entry)) .answer ⌝ }
+    ensures { λ r. ⌜ S.LeavesAnswer (S.expiryCall since (now (answer .entry))) r (now (answer .exit)) ⌝ }
 {
-    if answer.len() < 32 {
+    if answer.len() < EXPIRY_ANSWER {
         return 14;
     }
     match absolute_expiry(since) {
-        Expiry::At(ms) => put_two(answer, 1, ms),
-        Expiry::None => put_two(answer, 0, 0),
+        Expiry::At(ms) => accept(answer, &[1, ms]),
+        Expiry::None => accept(answer, &[0, 0]),
     }
-    0
 }
 
 // The hash of a public key.
 #[no_mangle]
 pub extern "C" fn fiber_test_key_hash(key: &[u8], answer: &mut [u8]) -> u64
-    ensures { λ r. ⌜ r ≡ S.call 36 (S.saidKey (keyHash (now (key .entry)))) (now (answer .entry)) .status ⌝ }
-    ensures { λ _. ⌜ now (answer .exit) ≡ S.call 36 (S.saidKey (keyHash (now (key .entry)))) (now (answer .entry)) .answer ⌝ }
+    ensures { λ r. ⌜ S.LeavesAnswer (S.keyCall (now (key .entry)) (now (answer .entry))) r (now (answer .exit)) ⌝ }
 {
-    if answer.len() < 36 {
+    if answer.len() < KEY_ANSWER {
         return 14;
     }
     let k = key_hash(key);
-    let said = k.answer;
+    let hashed = k.answer;
     let bytes = k.bytes;
-    match said {
+    match hashed {
         KeyAnswer::Taken => {
             put_front(answer, 0, 0);
             put(answer, 16, &bytes);
             0
         }
-        KeyAnswer::Refused { number, place } => {
-            put_front(answer, number as u64, place as u64);
-            number as u64
-        }
+        KeyAnswer::Refused { number, place } => refuse(answer, number, place),
     }
 }

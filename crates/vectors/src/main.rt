@@ -164,7 +164,8 @@ fn print(name: &[u8], c: Count) {
     io::write_all(STDOUT_FILENO, b" agree\n");
 }
 
-// Room for the longest message. The `ensures` gives only the length, which lending the array as a slice needs.
+// Room for the list, and for the longest message. The `ensures` gives only the length, which lending the array as a
+// slice needs.
 fn buffer() -> [u8; 1_000_000]
     ensures { λ r. ⌜ 1000000 ≡ length r ⌝ }
 {
@@ -178,7 +179,7 @@ fn main() {
         os::fail(path);
         return;
     }
-    let mut text = io::large_buffer();
+    let mut text = buffer();
     let n = io::read_full(file, &mut text);
     libc::close(file);
     let mut out = buffer();

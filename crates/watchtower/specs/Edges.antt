@@ -1,4 +1,4 @@
--- The marked rows of document 01's table "Edges", in its order: one list of inputs, each with its result.
+-- The marked rows of document 01's table "Edges", in its order: one list of inputs, each with its result, for both hash lengths.
 use Prim.Native.Nat.{ℕ, _+_, _^_}
 use mathlib.Core.List.{List, [], _∷_}
 use lib.ListN.{replicate}
@@ -27,12 +27,12 @@ pub data Result : Type 0 where
   expires : Expiry → Result
   reads : WitnessRead → Result
 
--- what the definitions say of an input
-unfoldable pub said : Input → Result
-said (scale delay numerator denominator) = scaledTo (scaled delay numerator denominator)
-said (due header delay current) = dueIs (dueTest header delay current)
-said (expiry since) = expires (absoluteExpiry since)
-said (witness w) = reads (readWitness 20 w)
+-- what the definitions say of an input, in a channel whose hashes have h bytes
+unfoldable pub said : ℕ → Input → Result
+said h (scale delay numerator denominator) = scaledTo (scaled delay numerator denominator)
+said h (due header delay current) = dueIs (dueTest header delay current)
+said h (expiry since) = expires (absoluteExpiry since)
+said h (witness w) = reads (readWitness h w)
 
 pub record Edge : Type 0 where
   pub input : Input

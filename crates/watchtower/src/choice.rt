@@ -1,19 +1,19 @@
 // The choice of an unlock: what may be chosen, and one operation for a first and a later settlement.
 use fiber_bytes::le64;
 use fiber_bytes::part_of;
-pub use fiber_choice::kinds::Asked;
 pub use fiber_choice::kinds::Choice;
 pub use fiber_choice::kinds::ChoiceAnswer;
+pub use fiber_choice::kinds::Decision;
 pub use fiber_choice::kinds::Delay;
 pub use fiber_choice::kinds::Found;
-pub use fiber_choice::kinds::Handed;
 pub use fiber_choice::kinds::Key;
-pub use fiber_choice::kinds::Pick;
+use fiber_choice::kinds::PAIR;
+pub use fiber_choice::kinds::Scalars;
 pub use fiber_choice::kinds::Side;
-pub use fiber_choice::kinds::Walk;
+use fiber_choice::kinds::TRACKED_FIXED;
 pub use fiber_choice::kinds::Way;
-use fiber_first::lent::data_well;
-use fiber_first::lent::tracked_well;
+use fiber_first::entries::valid_data;
+use fiber_first::entries::valid_tracked;
 use fiber_types::epoch::Epoch;
 use fiber_types::epoch::Scaled;
 use fiber_types::epoch::from_full_value;
@@ -21,17 +21,19 @@ use fiber_types::epoch::within_bits;
 use fiber_types::since::Metric;
 use fiber_types::since::from_raw_value;
 use fiber_types::tlc::Amount;
-use fiber_types::tlc::known;
-use fiber_walk::initial::choose_first;
+use fiber_types::tlc::valid_hash_len;
+use fiber_walk::first::choose_first;
 use fiber_walk::later::choose_later;
 ghost use mathlib.Core.Path.{_≡_};
 ghost use Prim.Native.Nat.{ℕ, _+_, _*_, _≤_};
 ghost use lib.ListN.{length};
+ghost use Rattle.fiber_choice.specs.Request.{requestOf, validRequest, delayOf};
+ghost use Rattle.fiber_choice.specs.HandedOut.{Gives};
 ghost use Rattle.fiber_choice.specs.Choice as S;
 
 // The delay in the lock args: 10 below 36 bytes, 11 where bytes 20 to 27 are no relative epoch since.
 fn delay_of(args: &[u8]) -> Scaled
-    ensures { λ r. ⌜ r ≡ S.delayOf (now (args .entry)) ⌝ }
+    ensures { λ r. ⌜ r ≡ delayOf (now (args .entry)) ⌝ }
 {
     if args.len() < 36 {
         return Scaled::Refused {
@@ -65,8 +67,8 @@ fn delay_of(args: &[u8]) -> Scaled
 }
 
 // Row 14 looks at all that is lent, in a first and in a later settlement alike.
-fn lent_well(
-    asked: Asked,
+fn valid_request(
+    scalars: Scalars,
     args: &[u8],
     tlcs: &[u8],
     local_key: &[u8],
@@ -74,33 +76,33 @@ fn lent_well(
     tracked: &[u8],
     preimages: &[u8],
 ) -> bool
-    ensures { λ r. ⌜ r ≡ S.lentWell (S.caseOf asked (now (args .entry)) (now (tlcs .entry)) (now («local_key» .entry)) (now («remote_key» .entry)) (now (tracked .entry)) (now (preimages .entry))) ⌝ }
+    ensures { λ r. ⌜ r ≡ validRequest (requestOf scalars (now (args .entry)) (now (tlcs .entry)) (now («local_key» .entry)) (now («remote_key» .entry)) (now (tracked .entry)) (now (preimages .entry))) ⌝ }
 {
-    if !known(asked.h) {
+    if !valid_hash_len(scalars.h) {
         return false;
     }
-    if !data_well(tlcs, local_key, remote_key) {
+    if !valid_data(tlcs, local_key, remote_key) {
         return false;
     }
-    if tracked.len() % (98 + asked.h) != 0 {
+    if tracked.len() % (TRACKED_FIXED + scalars.h) != 0 {
         return false;
     }
-    if preimages.len() % 64 != 0 {
+    if preimages.len() % PAIR != 0 {
         return false;
     }
-    if !within_bits(asked.header) {
+    if !within_bits(scalars.header) {
         return false;
     }
-    if !within_bits(asked.current) {
+    if !within_bits(scalars.current) {
         return false;
     }
-    tracked_well(asked.h, tracked)
+    valid_tracked(scalars.h, tracked)
 }
 
 // Chooses an unlock for a first settlement, or with is_later for a later one whose witness is given, and hands it out: the
 // unlock, the state before it and the new args go to the front of out.
 pub fn choose(
-    asked: Asked,
+    scalars: Scalars,
     is_later: bool,
     args: &[u8],
     tlcs: &[u8],
@@ -111,10 +113,17 @@ pub fn choose(
     witness: &[u8],
     out: &mut [u8],
 ) -> ChoiceAnswer
-    ensures { λ r. ⌜ r ≡ S.choiceOf (S.caseOf asked (now (args .entry)) (now (tlcs .entry)) (now («local_key» .entry)) (now («remote_key» .entry)) (now (tracked .entry)) (now (preimages .entry))) «is_later» (now (witness .entry)) (now (out .entry)) .answer ⌝ }
-    ensures { λ _. ⌜ now (out .exit) ≡ S.choiceOf (S.caseOf asked (now (args .entry)) (now (tlcs .entry)) (now («local_key» .entry)) (now («remote_key» .entry)) (now (tracked .entry)) (now (preimages .entry))) «is_later» (now (witness .entry)) (now (out .entry)) .bytes ⌝ }
+    ensures { λ r. ⌜ Gives (S.choiceOf (requestOf scalars (now (args .entry)) (now (tlcs .entry)) (now («local_key» .entry)) (now («remote_key» .entry)) (now (tracked .entry)) (now (preimages .entry))) «is_later» (now (witness .entry)) (now (out .entry))) r (now (out .exit)) ⌝ }
 {
-    if !lent_well(asked, args, tlcs, local_key, remote_key, tracked, preimages) {
+    if !valid_request(
+        scalars,
+        args,
+        tlcs,
+        local_key,
+        remote_key,
+        tracked,
+        preimages,
+    ) {
         return ChoiceAnswer::Refused {
             number: 14,
             place: 0,
@@ -125,12 +134,11 @@ pub fn choose(
         Scaled::Epoch(full) => {
             if is_later {
                 choose_later(
-                    asked.h,
-                    asked.for_remote,
-                    asked.time,
+                    scalars,
                     args,
                     tlcs,
                     local_key,
+                    remote_key,
                     tracked,
                     preimages,
                     witness,
@@ -138,7 +146,7 @@ pub fn choose(
                 )
             } else {
                 choose_first(
-                    asked,
+                    scalars,
                     full,
                     args,
                     tlcs,
@@ -169,6 +177,13 @@ fn record_part<'a>(
     part_of(tracked, place, len)
 }
 
+// The empty part at the slice's start.
+fn no_record<'a>(is_later: bool, witness: &'a [u8], tracked: &'a [u8]) -> &'a [u8]
+    ensures { λ r. ⌜ now r ≡ S.recordPart «is_later» 0 0 (now (witness .entry)) (now (tracked .entry)) ⌝ }
+{
+    record_part(is_later, 0, 0, witness, tracked)
+}
+
 // The record of the chosen TLC, as a part of the witness or of the tracked list. For a share, a wait or a refusal it is the
 // empty part at that slice's start.
 pub fn record_of<'a>(
@@ -180,12 +195,16 @@ pub fn record_of<'a>(
     ensures { λ r. ⌜ now r ≡ S.recordOf «is_later» answer (now (witness .entry)) (now (tracked .entry)) ⌝ }
 {
     match answer {
-        ChoiceAnswer::Chosen(handed) => {
-            record_part(is_later, handed.place, handed.len, witness, tracked)
+        ChoiceAnswer::Chosen(decision) => {
+            record_part(is_later, decision.place, decision.len, witness, tracked)
         }
+        ChoiceAnswer::Wait {
+            number: _,
+            place: _,
+        } => { no_record(is_later, witness, tracked) }
         ChoiceAnswer::Refused {
             number: _,
             place: _,
-        } => { record_part(is_later, 0, 0, witness, tracked) }
+        } => { no_record(is_later, witness, tracked) }
     }
 }

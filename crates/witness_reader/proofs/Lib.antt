@@ -1,2 +1,3 @@
 -- Laws of the definitions, which proofs cite.
 pub mod ReaderLaws
+pub mod Takes

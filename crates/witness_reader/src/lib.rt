@@ -1,13 +1,18 @@
-// The reference's `WitnessReader`: a struct that holds the rest of a witness, with `take` and `is_empty` alone. Every function that carries
-// one is proved by hand; the work stands in functions on plain slices, and `front_of` takes plain parameters, so that its callers need no such proof.
-// A form beside the upper face, for whoever wants the reference's; no crate of the core uses it. Uses the two faces and fiber_bytes.
+// The reference's `WitnessReader`: a struct that holds the rest of a witness, with `take` and `is_empty` alone, and `read` over it, which answers as
+// the cursor `watchtower::witness::read` does. Every function that carries the struct is proved by hand, so few do and none of them decides
+// anything: what was taken goes to functions on plain slices and numbers. A form beside the upper face, for whoever wants the reference's; no crate
+// of the core uses it, the program `forms` runs it. Uses the two faces and fiber_bytes.
 use fiber_bytes::part_of;
-use fiber_types::tlc::known;
+use fiber_types::tlc::valid_hash_len;
+use watchtower::witness::WitnessRead;
 ghost use mathlib.Core.Path.{_≡_};
+ghost use mathlib.Core.Bool.{cond};
 ghost use lib.Dec.{leb, eqb};
-ghost use Prim.Native.Nat.{_<_};
-ghost use lib.ListN.{length, getD};
-ghost use Rattle.witness_reader.specs.Reader.{taken, left, knownLen, knownIn, frontOf};
+ghost use Prim.Native.Nat.{_+_, _≤_, _<_};
+ghost use lib.ListN.{length, getD, drop};
+ghost use Rattle.fiber_witness.specs.Witness.{unlockLen, readUnlocks, readWitness};
+ghost use Rattle.witness_reader.specs.Reader.{taken, left};
+ghost use Rattle.witness_reader.specs.inner.Front.{tlcsLen, preimageLen, Front};
 
 pub struct WitnessReader<'a> {
     pub remaining: &'a [u8],
@@ -18,12 +23,6 @@ pub struct Taken<'a> {
     pub enough: bool,
     pub part: &'a [u8],
     pub rest: WitnessReader<'a>,
-}
-
-// A witness up to its unlocks: n TLCs and so many bytes behind the shares; or what is not there in whole.
-pub enum Front {
-    Whole { n: usize, unlocks: usize },
-    Cut,
 }
 
 // Whether s has n bytes.
@@ -53,61 +52,6 @@ fn back_bytes(s: &[u8], n: usize) -> &[u8]
     s
 }
 
-fn wide(x: u8) -> usize
-    ensures { λ r. ⌜ (r ≡ x) × (r < 256) ⌝ }
-{
-    x as usize
-}
-
-// The second of two counts, or 0.
-fn count_in(counts: &[u8]) -> usize
-    ensures { λ r. ⌜ (r ≡ getD (now (counts .entry)) 1 0) × (r < 256) ⌝ }
-{
-    if counts.len() < 2 {
-        return 0;
-    }
-    wide(counts[1])
-}
-
-// The bytes of the TLCs, or 0 where hashes cannot have h bytes.
-fn tlcs_len(h: usize, counts: &[u8]) -> usize
-    ensures { λ r. ⌜ r ≡ knownLen h (now (counts .entry)) ⌝ }
-{
-    if !known(h) {
-        return 0;
-    }
-    count_in(counts) * (65 + h)
-}
-
-// What three takes make, by whether each had enough bytes.
-fn front_in<'a>(
-    h: usize,
-    counted: bool,
-    listed: bool,
-    shared: bool,
-    counts: &'a [u8],
-    rest: &'a [u8],
-) -> Front
-    ensures { λ r. ⌜ r ≡ knownIn h counted listed shared (now (counts .entry)) (now (rest .entry)) ⌝ }
-{
-    if !known(h) {
-        return Front::Cut;
-    }
-    if !counted {
-        return Front::Cut;
-    }
-    if !listed {
-        return Front::Cut;
-    }
-    if !shared {
-        return Front::Cut;
-    }
-    Front::Whole {
-        n: count_in(counts),
-        unlocks: rest.len(),
-    }
-}
-
 impl<'a> WitnessReader<'a> {
     // Whether nothing is left.
     pub fn is_empty(self) -> bool
@@ -133,15 +77,148 @@ impl<'a> WitnessReader<'a> {
     }
 }
 
-// A witness up to its unlocks: two counts, n TLCs and two shares, one taken behind the other.
-pub fn front_of(h: usize, w: &[u8]) -> Front
-    ensures { λ r. ⌜ r ≡ frontOf h (now (w .entry)) ⌝ }
+// Whether a reader of s has nothing left.
+fn ended(s: &[u8]) -> bool
+    ensures { λ r. ⌜ r ≡ eqb (length (now (s .entry))) 0 ⌝ }
+{
+    WitnessReader { remaining: s }.is_empty()
+}
+
+// The bytes of the preimage behind an unlock's first 67: 32 where the flag is 1.
+fn preimage_len(unlock: &[u8]) -> usize
+    ensures { λ r. ⌜ r ≡ preimageLen (now (unlock .entry)) ⌝ }
+{
+    if unlock.len() < 2 {
+        return 0;
+    }
+    if unlock[1] == 1 {
+        return 32;
+    }
+    0
+}
+
+// What is behind an unlock that was taken in two parts, or all of s where a part was not there.
+fn behind<'a>(s: &'a [u8], first: bool, second: bool, rest: &'a [u8]) -> &'a [u8]
+    ensures { λ r. ⌜ now r ≡ cond first (cond second (now (rest .entry)) (now (s .entry))) (now (s .entry)) ⌝ }
+{
+    if !first {
+        return s;
+    }
+    if !second {
+        return s;
+    }
+    rest
+}
+
+// What a reader of s leaves behind an unlock, or all of s where it is cut short.
+fn unlock_left(s: &[u8]) -> &[u8]
+    ensures { λ r. ⌜ now r ≡ left (now (s .entry)) (unlockLen (now (s .entry)) 0) ⌝ }
+{
+    let unlock = WitnessReader { remaining: s }.take(67);
+    let preimage = unlock.rest.take(preimage_len(unlock.part));
+    behind(s, unlock.enough, preimage.enough, preimage.rest.remaining)
+}
+
+// The unlocks to the end, of a witness with n TLCs. Each is at the place where what is left begins.
+fn read_unlocks<'a>(w: &'a [u8], n: usize, share: usize, rest: &'a [u8]) -> WitnessRead
+    requires { ⌜ (share + 72 ≤ length (now w)) × (now rest ≡ drop (share + 72) (now w)) ⌝ }
+    ensures { λ r. ⌜ r ≡ readUnlocks (now (w .entry)) n share ⌝ }
+{
+    let mut left = rest;
+    let mut unlocks = 0;
+    while !ended(left) {
+        let next = unlock_left(left);
+        if next.len() == left.len() {
+            return WitnessRead::Refused {
+                number: 4,
+                place: w.len() - left.len(),
+            };
+        }
+        left = next;
+        unlocks += 1;
+    }
+    WitnessRead::Whole {
+        n,
+        unlocks,
+        share,
+        first: share + 72,
+    }
+}
+
+// The second of two counts, or 0.
+fn count_in(counts: &[u8]) -> usize
+    ensures { λ r. ⌜ (r ≡ getD (now (counts .entry)) 1 0) × (r < 256) ⌝ }
+{
+    if counts.len() < 2 {
+        return 0;
+    }
+    counts[1] as usize
+}
+
+// The bytes of the TLCs, or 0 where hashes cannot have h bytes.
+fn tlcs_len(h: usize, counts: &[u8]) -> usize
+    ensures { λ r. ⌜ r ≡ tlcsLen h (now (counts .entry)) ⌝ }
+{
+    if !valid_hash_len(h) {
+        return 0;
+    }
+    count_in(counts) * (65 + h)
+}
+
+// What three takes mean, by whether each had enough bytes: the row of the first that had not, or the unlocks.
+fn read_front<'a>(
+    h: usize,
+    w: &'a [u8],
+    counted: bool,
+    listed: bool,
+    shared: bool,
+    counts: &'a [u8],
+    rest: &'a [u8],
+) -> WitnessRead
+    requires { ⌜ Front h (now w) counted listed shared (now counts) (now rest) ⌝ }
+    ensures { λ r. ⌜ r ≡ readWitness h (now (w .entry)) ⌝ }
+{
+    if !valid_hash_len(h) {
+        return WitnessRead::Refused {
+            number: 14,
+            place: 0,
+        };
+    }
+    if !counted {
+        return WitnessRead::Refused {
+            number: 1,
+            place: w.len(),
+        };
+    }
+    let size = 65 + h;
+    if !listed {
+        let whole = (w.len() - 2) / size;
+        return WitnessRead::Refused {
+            number: 2,
+            place: 2 + whole * size,
+        };
+    }
+    let n = count_in(counts);
+    let share = 2 + n * size;
+    if !shared {
+        return WitnessRead::Refused {
+            number: 3,
+            place: share,
+        };
+    }
+    read_unlocks(w, n, share, rest)
+}
+
+// Reads a witness of a channel whose hashes have h bytes: two counts, n TLCs and two shares, one taken behind the other, then the unlocks.
+pub fn read(h: usize, w: &[u8]) -> WitnessRead
+    ensures { λ r. ⌜ r ≡ readWitness h (now (w .entry)) ⌝ }
 {
     let counts = WitnessReader { remaining: w }.take(2);
     let tlcs = counts.rest.take(tlcs_len(h, counts.part));
     let shares = tlcs.rest.take(72);
-    front_in(
+    read_front(
         h,
+        w,
         counts.enough,
         tlcs.enough,
         shares.enough,

@@ -66,8 +66,7 @@ impl Kind for Choice {
 
     const NAME: &'static str = "choice";
     const ABOUT: &'static str = "the next unlock";
-    const EXPORT: Option<(&'static str, bool)> =
-        Some(("fiber_settlement_choose", port::CHOOSE.is_some()));
+    const EXPORT: Option<(&'static str, bool)> = Some(("fiber_settlement_choose", port::CHOOSE.is_some()));
     const DUMP_LINES: usize = 140;
     const DUMP_ROWS: bool = true;
     const DUMP_ALIKE: usize = 8;

@@ -17,8 +17,8 @@ put-word-requires-2 c κs =
     let s = w .before .before .before .before .before .before .before .before .before .before .args .share .now in
     omega (arith, hex-part-short s 0 20 (w .before .part-of .ensures) .1)
 
-put-hex-highest-requires : tie.Need-put-hex-highest-requires
-put-hex-highest-requires c κs =
+put-hex-requires-2 : tie.Need-put-hex-requires-2
+put-hex-requires-2 c κs =
     let w = c .before .before .before .before .before .before .before .before .before in
     let s = w .before .before .before .before .before .before .before .before .before .before .args .share .now in (
       omega (arith, hex-part-short s 0 20 (w .before .part-of .ensures) .1),
@@ -49,7 +49,7 @@ returns c =
     let z = w₁ .before .before .before .before .before in
     let a = z .args in
     let w = share-line (a .out .now) (a .at) (a .word .now) (a .share .now) (w₂ .before .part-of .ensures) (w₄ .before .part-of2 .ensures)
-    (w₁ .put-word .ensures) (w₂ .put-hex .ensures) (w₃ .put-word2 .ensures) (w₄ .put-hex-highest .ensures) (w₅ .put-word3 .ensures) in
+    (w₁ .put-word .ensures) (w₂ .put-hex .ensures) (w₃ .put-word2 .ensures) (w₄ .put-hex2 .ensures) (w₅ .put-word3 .ensures) in
     ((w .0, omega (arith, w .0, z .pre, share-line-short (a .word .now) (a .share .now))), w .1)
 
 pub put-share-line-spec : {M : Type 1} → statement M
@@ -62,7 +62,7 @@ put-share-line-spec =
     (λ c. search needs)
     put-word-requires-2
     (λ c κs. search needs)
-    put-hex-highest-requires
+    put-hex-requires-2
     (λ c. search needs)
     put-word-requires-3
     (λ c. search needs)

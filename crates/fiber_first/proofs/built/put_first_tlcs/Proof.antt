@@ -7,10 +7,10 @@ use mathlib.Core.Path.{ap, _∙_}
 use native.Mathlib.Omega.{arith}
 use lib.ListN.{length, take, drop}
 use lib.Seq.{sets}
-use Rattle.fiber_types.proofs.RecordsLaws.{known-small}
-use Rattle.fiber_choice.specs.First.{firstRecord}
-use Rattle.fiber_witness.proofs.UpdateLaws.{sets-part, part-between}
-use Rattle.fiber_choice.proofs.FirstLaws.{Firsts, wells-asks, rest-room, firsts-start, firsts-from, firsts-room, firsts-next, firsts-end}
+use Rattle.fiber_types.proofs.RecordsLaws.{hash-len-small}
+use Rattle.fiber_choice.specs.FirstRecords.{firstRecord}
+use Rattle.fiber_witness.proofs.UpdateLaws.{sets-part, rest-room, part-between}
+use Rattle.fiber_choice.proofs.FirstRecordsLaws.{Firsts, valid-asks, firsts-start, firsts-from, firsts-room, firsts-next, firsts-end}
 use borrow.Author.Needs.{needs}
 use Rattle.fiber_first.proofs.built.put_first_tlcs.Statement.{statement}
 use Rattle.fiber_first.proofs.built.put_first_tlcs.Tie as tie
@@ -25,7 +25,7 @@ abbrev μ-loop : tie.MeasureT-loop
 μ-loop h for-remote tlcs out₀ size n from₀ at₀ i₀ out from at i = n - i
 
 add-size : tie.Need-add-size Inv-loop μ-loop
-add-size c = omega (arith, known-small _ (c .before .before .pre .0 .0))
+add-size c = omega (arith, hash-len-small _ (c .before .before .pre .0 .0))
 
 loop-holds : tie.Need-loop-holds Inv-loop μ-loop
 loop-holds c = firsts-start _ _ _ _ (c .before .before .pre .0 .1)
@@ -62,7 +62,7 @@ put-first-requires : tie.Need-put-first-requires Inv-loop μ-loop
 put-first-requires c κs =
     let s = c .before .before .before .before .before .before in
     let l = c .before .before .before .loop in
-    let w = wells-asks (s .args .tlcs .now) (l .from) (l .i) (l .inv .wells) (c .before .before .loop-test .taken) _ (part-between (s .args .tlcs .now) (l .from) 124) in
+    let w = valid-asks (s .args .tlcs .now) (l .from) (l .i) (l .inv .valid) (c .before .before .loop-test .taken) _ (part-between (s .args .tlcs .now) (l .from) 124) in
     (s .pre .0 .0, (w .0, (w .1, rest-room (l .out) (l .at) (65 + s .args .h) (room (c .before .before)))))
 
 add-from : tie.Need-add-from Inv-loop μ-loop

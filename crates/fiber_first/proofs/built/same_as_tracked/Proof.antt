@@ -7,10 +7,10 @@ use native.Mathlib.Omega.{arith}
 use borrow.Author.Tests.{not-true, not-false}
 use lib.ListN.{length, take, drop}
 use lib.Seq.{sets}
-use Rattle.fiber_types.proofs.RecordsLaws.{known-small}
-use Rattle.fiber_choice.specs.First.{firstRecord}
+use Rattle.fiber_types.proofs.RecordsLaws.{hash-len-small}
+use Rattle.fiber_choice.specs.FirstRecords.{firstRecord}
 use Rattle.fiber_witness.proofs.UpdateLaws.{part-between}
-use Rattle.fiber_choice.proofs.FirstLaws.{Sames, still-long, wells-asks, tracked-other, sames-start, sames-from, sames-at, sames-differ, sames-next, sames-end}
+use Rattle.fiber_choice.proofs.FirstRecordsLaws.{Sames, still-long, valid-asks, tracked-other, sames-start, sames-from, sames-at, sames-differ, sames-next, sames-end}
 use borrow.Author.Needs.{needs}
 use Rattle.fiber_first.proofs.built.same_as_tracked.Statement.{statement}
 use Rattle.fiber_first.proofs.built.same_as_tracked.Tie as tie
@@ -18,7 +18,7 @@ use Rattle.fiber_first.proofs.built.same_as_tracked.Reads as reads
 use Rattle.fiber_first.proofs.built.same_as_tracked.Lts as lts
 use Rattle.fiber_bytes.proofs.part_of.Reads as part-of-reads
 use Rattle.fiber_first.proofs.built.put_first.Reads as put-first-reads
-use Rattle.fiber_first.proofs.lent.same.Reads as same-reads
+use Rattle.fiber_first.proofs.entries.same.Reads as same-reads
 
 abbrev Inv-loop : tie.InvT-loop
 Inv-loop h for-remote tlcs tracked size n record₀ from₀ at₀ i₀ «record» from at i = Sames h for-remote tlcs tracked «record» from at i
@@ -27,7 +27,7 @@ abbrev μ-loop : tie.MeasureT-loop
 μ-loop h for-remote tlcs tracked size n record₀ from₀ at₀ i₀ «record» from at i = n - i
 
 add-size : tie.Need-add-size Inv-loop μ-loop
-add-size c = omega (arith, known-small _ (c .before .before .pre .0))
+add-size c = omega (arith, hash-len-small _ (c .before .before .pre .0))
 
 returns : tie.Need-returns Inv-loop μ-loop
 returns c = tracked-other _ _ _ _ (c .if1 .taken)
@@ -55,8 +55,8 @@ put-first-requires : tie.Need-put-first-requires Inv-loop μ-loop
 put-first-requires c κs =
     let s = c .before .before .before .before .before .before .before in
     let l = c .before .before .before .loop in
-    let w = wells-asks (s .args .tlcs .now) (l .from) (l .i) (l .inv .wells) (c .before .before .loop-test .taken) _ (part-between (s .args .tlcs .now) (l .from) 124) in
-    (s .pre .0, (w .0, (w .1, omega (arith, l .inv .long, known-small _ (s .pre .0)))))
+    let w = valid-asks (s .args .tlcs .now) (l .from) (l .i) (l .inv .valid) (c .before .before .loop-test .taken) _ (part-between (s .args .tlcs .now) (l .from) 124) in
+    (s .pre .0, (w .0, (w .1, omega (arith, l .inv .long, hash-len-small _ (s .pre .0)))))
 
 slice-aggregate-part-of : tie.Need-slice-aggregate-part-of Inv-loop μ-loop
 slice-aggregate-part-of c =
@@ -65,10 +65,10 @@ slice-aggregate-part-of c =
     still-long (l .«record») (firstRecord (a .h) (a .for-remote) (take (l .from + 124 - l .from) (drop (l .from) (a .tlcs .now)))) _ 97 (c .before .before .put-first .ensures) (l .inv .long)
 
 add-part-of : tie.Need-add-part-of Inv-loop μ-loop
-add-part-of c = omega (arith, known-small _ (c .before .before .before .before .before .before .before .before .before .before .pre .0))
+add-part-of c = omega (arith, hash-len-small _ (c .before .before .before .before .before .before .before .before .before .before .pre .0))
 
 add-part-of-2 : tie.Need-add-part-of-2 Inv-loop μ-loop
-add-part-of-2 c = omega (arith, known-small _ (c .before .before .before .before .before .before .before .before .before .before .before .pre .0))
+add-part-of-2 c = omega (arith, hash-len-small _ (c .before .before .before .before .before .before .before .before .before .before .before .pre .0))
 
 returns-2 : tie.Need-returns-2 Inv-loop μ-loop
 returns-2 c =

@@ -1,5 +1,5 @@
 -- Three writes, one right behind the other, fill the array.
-use Rattle.fiber_choice.proofs.FirstLaws.{share-puts}
+use Rattle.fiber_choice.proofs.FirstRecordsLaws.{share-puts}
 use borrow.Author.Needs.{needs}
 use Rattle.fiber_first.proofs.built.share_of.Statement.{statement}
 use Rattle.fiber_first.proofs.built.share_of.Tie as tie

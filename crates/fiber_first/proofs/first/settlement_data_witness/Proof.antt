@@ -6,23 +6,23 @@ use borrow.Author.Tests.{not-true, not-false}
 use Prim.Native.Nat.{_/_, _≤_}
 use mathlib.Core.Bool.{true}
 use lib.ListN.{length, length-set}
-use Rattle.fiber_types.specs.Records.{known}
-use Rattle.fiber_types.proofs.RecordsLaws.{known-small}
-use Rattle.fiber_choice.specs.First.{Data, dataWell}
-use Rattle.fiber_choice.proofs.FirstLaws.{share-length, data-unknown, data-bad, data-wells, data-many, data-small, data-flat, data-short, data-remote, data-local, wrote-length}
+use Rattle.fiber_types.specs.Records.{validHashLen}
+use Rattle.fiber_types.proofs.RecordsLaws.{hash-len-small}
+use Rattle.fiber_choice.specs.Request.{SettlementData, validData}
+use Rattle.fiber_choice.proofs.FirstRecordsLaws.{share-length, data-unknown, data-bad, data-valid, data-many, data-small, data-flat, data-short, data-remote, data-local, wrote-length}
 use borrow.Author.Needs.{needs}
 use Rattle.fiber_first.proofs.first.settlement_data_witness.Statement.{statement}
 use Rattle.fiber_first.proofs.first.settlement_data_witness.Tie as tie
 use Rattle.fiber_first.proofs.first.settlement_data_witness.Reads as reads
 use Rattle.fiber_first.proofs.first.settlement_data_witness.Lts as lts
 use Rattle.fiber_bytes.proofs.put.Reads as put-reads
-use Rattle.fiber_types.proofs.tlc.known.Reads as known-reads
+use Rattle.fiber_types.proofs.tlc.valid_hash_len.Reads as valid-hash-len-reads
 use Rattle.fiber_first.proofs.built.put_first_tlcs.Reads as put-first-tlcs-reads
 use Rattle.fiber_first.proofs.built.share_of.Reads as share-of-reads
-use Rattle.fiber_first.proofs.lent.data_well.Reads as data-well-reads
+use Rattle.fiber_first.proofs.entries.valid_data.Reads as valid-data-reads
 
 -- the settlement data
-abbrev given-data : lts.Start (known-reads.Asked, known-reads.Learnt, data-well-reads.Asked, data-well-reads.Learnt, share-of-reads.Asked, share-of-reads.Learnt, put-first-tlcs-reads.Asked, put-first-tlcs-reads.Learnt, put-reads.Asked, put-reads.Learnt) reads.Pre reads.Post → Data
+abbrev given-data : lts.Start (valid-hash-len-reads.Asked, valid-hash-len-reads.Learnt, valid-data-reads.Asked, valid-data-reads.Learnt, share-of-reads.Asked, share-of-reads.Learnt, put-first-tlcs-reads.Asked, put-first-tlcs-reads.Learnt, put-reads.Asked, put-reads.Learnt) reads.Pre reads.Post → SettlementData
 given-data s = record {
   tlcs = s .args .tlcs .now;
   localAmount = s .args .local-amount;
@@ -34,31 +34,31 @@ given-data s = record {
 returns : tie.Need-returns
 returns c =
     let a = c .before .before .before .before .before .before .args in
-    data-unknown (a .h) (a .for-remote) (given-data (c .before .before .before .before .before .before)) (a .out .now) (sym (c .before .known .ensures) ∙ not-true _ (c .if1 .taken))
+    data-unknown (a .h) (a .for-remote) (given-data (c .before .before .before .before .before .before)) (a .out .now) (sym (c .before .valid-hash-len .ensures) ∙ not-true _ (c .if1 .taken))
 
 returns-2 : tie.Need-returns-2
 returns-2 c =
     let a = c .before .before .before .before .before .before .before .before .args in
-    data-bad (a .h) (a .for-remote) (given-data (c .before .before .before .before .before .before .before .before)) (a .out .now) (sym (c .before .before .before .known .ensures) ∙ not-false _ (c .before .before .if1 .left)) (sym (c .before .data-well .ensures (a .local-amount) (a .remote-amount)) ∙ not-true _ (c .if2 .taken))
+    data-bad (a .h) (a .for-remote) (given-data (c .before .before .before .before .before .before .before .before)) (a .out .now) (sym (c .before .before .before .valid-hash-len .ensures) ∙ not-false _ (c .before .before .if1 .left)) (sym (c .before .valid-data .ensures (a .local-amount) (a .remote-amount)) ∙ not-true _ (c .if2 .taken))
 
 returns-3 : tie.Need-returns-3
 returns-3 c =
     let a = c .before .before .before .before .before .before .before .before .before .args in
-    data-many (a .h) (a .for-remote) (given-data (c .before .before .before .before .before .before .before .before .before)) (a .out .now) (sym (c .before .before .before .before .known .ensures) ∙ not-false _ (c .before .before .before .if1 .left)) (sym (c .before .before .data-well .ensures (a .local-amount) (a .remote-amount)) ∙ not-false _ (c .before .if2 .left)) (c .if3 .taken)
+    data-many (a .h) (a .for-remote) (given-data (c .before .before .before .before .before .before .before .before .before)) (a .out .now) (sym (c .before .before .before .before .valid-hash-len .ensures) ∙ not-false _ (c .before .before .before .if1 .left)) (sym (c .before .before .valid-data .ensures (a .local-amount) (a .remote-amount)) ∙ not-false _ (c .before .if2 .left)) (c .if3 .taken)
 
 -- what the tests say
-tests : (c : lts.Else3 (known-reads.Asked, known-reads.Learnt, data-well-reads.Asked, data-well-reads.Learnt, share-of-reads.Asked, share-of-reads.Learnt, put-first-tlcs-reads.Asked, put-first-tlcs-reads.Learnt, put-reads.Asked, put-reads.Learnt) reads.Pre reads.Post)
-    → (known (c .before .before .before .before .before .before .before .before .before .args .h) ≡ true)
-    × ((dataWell (given-data (c .before .before .before .before .before .before .before .before .before)) ≡ true)
+tests : (c : lts.Else3 (valid-hash-len-reads.Asked, valid-hash-len-reads.Learnt, valid-data-reads.Asked, valid-data-reads.Learnt, share-of-reads.Asked, share-of-reads.Learnt, put-first-tlcs-reads.Asked, put-first-tlcs-reads.Learnt, put-reads.Asked, put-reads.Learnt) reads.Pre reads.Post)
+    → (validHashLen (c .before .before .before .before .before .before .before .before .before .args .h) ≡ true)
+    × ((validData (given-data (c .before .before .before .before .before .before .before .before .before)) ≡ true)
     × (length (c .before .before .before .before .before .before .before .before .before .args .tlcs .now) / 124 ≤ 255))
 tests c =
     let a = c .before .before .before .before .before .before .before .before .before .args in (
-      sym (c .before .before .before .before .known .ensures) ∙ not-false _ (c .before .before .before .if1 .left),
-      (sym (c .before .before .data-well .ensures (a .local-amount) (a .remote-amount)) ∙ not-false _ (c .before .if2 .left), c .if3 .left),
+      sym (c .before .before .before .before .valid-hash-len .ensures) ∙ not-false _ (c .before .before .before .if1 .left),
+      (sym (c .before .before .valid-data .ensures (a .local-amount) (a .remote-amount)) ∙ not-false _ (c .before .if2 .left), c .if3 .left),
     )
 
 add-size : tie.Need-add-size
-add-size c = omega (arith, known-small _ (tests c .0))
+add-size c = omega (arith, hash-len-small _ (tests c .0))
 
 mul-size : tie.Need-mul-size
 mul-size c =
@@ -88,7 +88,7 @@ put-first-tlcs-requires : tie.Need-put-first-tlcs-requires
 put-first-tlcs-requires c κs =
     let a = c .before .before .before .before .before .before .before .before .before .before .before .before .before .args in
     let t = tests (c .before .before .before .before) in
-    ((t .0, data-wells (a .h) (a .for-remote) (given-data (c .before .before .before .before .before .before .before .before .before .before .before .before .before)) (a .out .now) (t .0) (t .1 .0)), simp length-set (omega (arith, c .before .before .before .if4 .left, data-flat (a .h) (a .for-remote) (given-data (c .before .before .before .before .before .before .before .before .before .before .before .before .before)) (a .out .now) (t .0) (t .1 .0) (t .1 .1))))
+    ((t .0, data-valid (a .h) (a .for-remote) (given-data (c .before .before .before .before .before .before .before .before .before .before .before .before .before)) (a .out .now) (t .0) (t .1 .0)), simp length-set (omega (arith, c .before .before .before .if4 .left, data-flat (a .h) (a .for-remote) (given-data (c .before .before .before .before .before .before .before .before .before .before .before .before .before)) (a .out .now) (t .0) (t .1 .0) (t .1 .1))))
 
 sub-put : tie.Need-sub-put
 sub-put c = omega arith

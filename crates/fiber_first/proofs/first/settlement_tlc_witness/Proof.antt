@@ -3,44 +3,44 @@
 use mathlib.Core.Path.{sym, _∙_}
 use native.Mathlib.Omega.{arith}
 use borrow.Author.Tests.{not-true, not-false}
-use Rattle.fiber_types.proofs.RecordsLaws.{known-small}
-use Rattle.fiber_choice.proofs.FirstLaws.{one-well, tlc-unknown, tlc-other, tlc-bad, tlc-short, tlc-whole}
+use Rattle.fiber_types.proofs.RecordsLaws.{hash-len-small}
+use Rattle.fiber_choice.proofs.FirstRecordsLaws.{one-valid, tlc-unknown, tlc-other, tlc-bad, tlc-short, tlc-whole}
 use borrow.Author.Needs.{needs}
 use Rattle.fiber_first.proofs.first.settlement_tlc_witness.Statement.{statement}
 use Rattle.fiber_first.proofs.first.settlement_tlc_witness.Tie as tie
 
 returns : tie.Need-returns
-returns c = tlc-unknown _ _ _ _ (sym (c .before .known .ensures) ∙ not-true _ (c .if1 .taken))
+returns c = tlc-unknown _ _ _ _ (sym (c .before .valid-hash-len .ensures) ∙ not-true _ (c .if1 .taken))
 
 returns-2 : tie.Need-returns-2
-returns-2 c = tlc-other _ _ _ _ (sym (c .before .before .known .ensures) ∙ not-false _ (c .before .if1 .left)) (c .if2 .taken)
+returns-2 c = tlc-other _ _ _ _ (sym (c .before .before .valid-hash-len .ensures) ∙ not-false _ (c .before .if1 .left)) (c .if2 .taken)
 
 returns-3 : tie.Need-returns-3
 returns-3 c =
-    tlc-bad _ _ _ _ (sym (c .before .before .before .before .known .ensures) ∙ not-false _ (c .before .before .before .if1 .left)) (c .before .before .if2 .left)
-    (sym (one-well _ (c .before .before .if2 .left)) ∙ sym (c .before .settlement-well .ensures) ∙ not-true _ (c .if3 .taken))
+    tlc-bad _ _ _ _ (sym (c .before .before .before .before .valid-hash-len .ensures) ∙ not-false _ (c .before .before .before .if1 .left)) (c .before .before .if2 .left)
+    (sym (one-valid _ (c .before .before .if2 .left)) ∙ sym (c .before .valid-settlements .ensures) ∙ not-true _ (c .if3 .taken))
 
 add-size : tie.Need-add-size
-add-size c = omega (arith, known-small _ (sym (c .before .before .before .before .known .ensures) ∙ not-false _ (c .before .before .before .if1 .left)))
+add-size c = omega (arith, hash-len-small _ (sym (c .before .before .before .before .valid-hash-len .ensures) ∙ not-false _ (c .before .before .before .if1 .left)))
 
 returns-4 : tie.Need-returns-4
 returns-4 c =
-    tlc-short _ _ _ _ (sym (c .before .before .before .before .before .known .ensures) ∙ not-false _ (c .before .before .before .before .if1 .left)) (c .before .before .before .if2 .left)
-    (sym (one-well _ (c .before .before .before .if2 .left)) ∙ sym (c .before .before .settlement-well .ensures) ∙ not-false _ (c .before .if3 .left)) (c .if4 .taken)
+    tlc-short _ _ _ _ (sym (c .before .before .before .before .before .valid-hash-len .ensures) ∙ not-false _ (c .before .before .before .before .if1 .left)) (c .before .before .before .if2 .left)
+    (sym (one-valid _ (c .before .before .before .if2 .left)) ∙ sym (c .before .before .valid-settlements .ensures) ∙ not-false _ (c .before .if3 .left)) (c .if4 .taken)
 
 put-first-requires : tie.Need-put-first-requires
 put-first-requires c κs = (
-  sym (c .before .before .before .before .before .before .known .ensures) ∙ not-false _ (c .before .before .before .before .before .if1 .left),
+  sym (c .before .before .before .before .before .before .valid-hash-len .ensures) ∙ not-false _ (c .before .before .before .before .before .if1 .left),
   (
-    sym (one-well _ (c .before .before .before .before .if2 .left)) ∙ sym (c .before .before .before .settlement-well .ensures) ∙ not-false _ (c .before .before .if3 .left),
+    sym (one-valid _ (c .before .before .before .before .if2 .left)) ∙ sym (c .before .before .before .valid-settlements .ensures) ∙ not-false _ (c .before .before .if3 .left),
     (c .before .before .before .before .if2 .left, c .before .if4 .left),
   ),
 )
 
 returns-5 : tie.Need-returns-5
 returns-5 c =
-    tlc-whole _ _ _ _ (sym (c .before .before .before .before .before .before .before .before .before .known .ensures) ∙ not-false _ (c .before .before .before .before .before .before .before .before .if1 .left)) (c .before .before .before .before .before .before .before .if2 .left)
-    (sym (one-well _ (c .before .before .before .before .before .before .before .if2 .left)) ∙ sym (c .before .before .before .before .before .before .settlement-well .ensures) ∙ not-false _ (c .before .before .before .before .before .if3 .left))
+    tlc-whole _ _ _ _ (sym (c .before .before .before .before .before .before .before .before .before .valid-hash-len .ensures) ∙ not-false _ (c .before .before .before .before .before .before .before .before .if1 .left)) (c .before .before .before .before .before .before .before .if2 .left)
+    (sym (one-valid _ (c .before .before .before .before .before .before .before .if2 .left)) ∙ sym (c .before .before .before .before .before .before .valid-settlements .ensures) ∙ not-false _ (c .before .before .before .before .before .if3 .left))
     (c .before .before .before .before .if4 .left) _ (c .before .before .put-first .ensures)
 
 pub settlement-tlc-witness-spec : {M : Type 1} → statement M

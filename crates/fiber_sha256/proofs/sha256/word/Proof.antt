@@ -28,4 +28,5 @@ word-spec =
     (λ c. search needs)
     (λ c κs. search needs)
     (λ c. search needs)
+    (λ c. search needs)
     returns)

@@ -3,9 +3,9 @@ use Prim.Native.Nat.{_-_}
 use mathlib.Core.Logic.{⊎-elim}
 use lib.ListN.{getD}
 use borrow.Author.Tests.{not-true, not-false}
-use Rattle.fiber_witness.specs.Marks.{marked}
-use Rattle.fiber_choice.specs.Choice.{unsettled}
-use Rattle.fiber_choice.proofs.LaterLaws.{Placing, placing-start, placing-end, placing-gone, placing-found, placing-more}
+use Rattle.fiber_witness.specs.inner.Marks.{marked}
+use Rattle.fiber_choice.specs.Settlements.{unsettled}
+use Rattle.fiber_choice.proofs.SettlementsLaws.{Placing, placing-start, placing-end, placing-gone, placing-found, placing-more}
 use borrow.Author.Needs.{needs}
 use Rattle.fiber_walk.proofs.later.first_of.Statement.{statement}
 use Rattle.fiber_walk.proofs.later.first_of.Tie as tie

@@ -3,7 +3,7 @@ use mathlib.Core.Path.{ap₂, _∙_}
 use Prim.Native.Nat.{ℕ}
 use mathlib.Core.List.{List}
 use Rattle.fiber_types.specs.declared.key.KeyHash.{KeyHash}
-use Rattle.fiber_choice.specs.Lent.{same}
+use Rattle.fiber_choice.specs.Entries.{same}
 use borrow.Author.Needs.{needs}
 use Rattle.fiber_walk.proofs.later.is_share_of.Statement.{statement}
 use Rattle.fiber_walk.proofs.later.is_share_of.Tie as tie

@@ -3,9 +3,9 @@ use Prim.Native.Nat.{ℕ, _+_, _*_}
 use mathlib.Core.Path.{sym, ap, _∙_}
 use native.Mathlib.Omega.{arith}
 use Rattle.fiber_witness.specs.Witness.{recordLen}
-use Rattle.fiber_witness.specs.Marks.{marked}
-use Rattle.fiber_choice.specs.Choice.{laterPlace, unsettled}
-use Rattle.fiber_choice.proofs.LaterLaws.{place-small}
+use Rattle.fiber_witness.specs.inner.Marks.{marked}
+use Rattle.fiber_choice.specs.Settlements.{laterPlace, unsettled}
+use Rattle.fiber_choice.proofs.SettlementsLaws.{place-small}
 use borrow.Author.Needs.{needs}
 use Rattle.fiber_walk.proofs.later.later_place.Statement.{statement}
 use Rattle.fiber_walk.proofs.later.later_place.Tie as tie

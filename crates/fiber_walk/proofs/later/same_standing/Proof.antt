@@ -6,21 +6,10 @@ use mathlib.Core.Logic.{⊎-elim}
 use native.Mathlib.Omega.{arith}
 use borrow.Author.Tests.{not-true, not-false}
 use Rattle.fiber_witness.specs.Update.{standing}
-use Rattle.fiber_witness.specs.Marks.{marked}
-use Rattle.fiber_choice.specs.Lent.{same, entries, trackedLen, trackedRecords}
-use Rattle.fiber_choice.specs.Choice.{sameLists}
-use Rattle.fiber_choice.proofs.LaterLaws.{
-  Comparing,
-  record-between,
-  comparing-short,
-  comparing-start,
-  comparing-end,
-  comparing-from,
-  comparing-at,
-  comparing-gone,
-  comparing-differ,
-  comparing-same,
-}
+use Rattle.fiber_witness.specs.inner.Marks.{marked}
+use Rattle.fiber_choice.specs.Entries.{same, entries, trackedLen, trackedRecords}
+use Rattle.fiber_choice.specs.Entries.{sameLists}
+use Rattle.fiber_choice.proofs.SettlementsLaws.{Comparing, record-between, comparing-short, comparing-start, comparing-end, comparing-from, comparing-at, comparing-gone, comparing-differ, comparing-same}
 use borrow.Author.Needs.{needs}
 use Rattle.fiber_walk.proofs.later.same_standing.Statement.{statement}
 use Rattle.fiber_walk.proofs.later.same_standing.Tie as tie

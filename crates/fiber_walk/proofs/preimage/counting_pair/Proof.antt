@@ -1,7 +1,7 @@
 -- By what the search finds, and whether that pair counts.
 use mathlib.Core.Path.{sym, _∙_}
 use mathlib.Core.Bool.{true, false}
-use Rattle.fiber_choice.proofs.LaterLaws.{pair-of, pair-bytes, counting-none, counting-at}
+use Rattle.fiber_choice.proofs.PreimagesLaws.{pair-of, pair-bytes, counting-none, counting-at}
 use borrow.Author.Needs.{needs}
 use Rattle.fiber_walk.proofs.preimage.counting_pair.Statement.{statement}
 use Rattle.fiber_walk.proofs.preimage.counting_pair.Tie as tie

@@ -1,9 +1,9 @@
 -- The bytes that are hashed are the second half of the pair.
 use mathlib.Core.Path.{ap, ap₂, _∙_}
 use lib.ListN.{getD}
-use Rattle.fiber_choice.specs.Lent.{same}
-use Rattle.fiber_choice.specs.Choice.{countsAt, digest}
-use Rattle.fiber_choice.proofs.LaterLaws.{pair-preimage}
+use Rattle.fiber_choice.specs.Entries.{same}
+use Rattle.fiber_choice.specs.Preimages.{countsAt, digest}
+use Rattle.fiber_choice.proofs.PreimagesLaws.{pair-preimage}
 use borrow.Author.Needs.{needs}
 use Rattle.fiber_walk.proofs.preimage.counts.Statement.{statement}
 use Rattle.fiber_walk.proofs.preimage.counts.Tie as tie

@@ -1,6 +1,6 @@
 -- The hash by the test of the definition.
 use borrow.Author.Tests.{eq-eqb, ne-eqb}
-use Rattle.fiber_choice.specs.Choice.{digest}
+use Rattle.fiber_choice.specs.Preimages.{digest}
 use borrow.Author.Needs.{needs}
 use Rattle.fiber_walk.proofs.preimage.digest.Statement.{statement}
 use Rattle.fiber_walk.proofs.preimage.digest.Tie as tie

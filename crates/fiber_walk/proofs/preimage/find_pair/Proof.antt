@@ -3,11 +3,11 @@
 use Prim.Native.Nat.{_-_}
 use mathlib.Core.Path.{refl, sym, ap, _∙_}
 use native.Mathlib.Omega.{arith}
-use Rattle.fiber_choice.specs.Lent.{same, entries, pairLen}
-use Rattle.fiber_choice.specs.Choice.{findPair}
+use Rattle.fiber_choice.specs.Entries.{same, entries, pairLen}
+use Rattle.fiber_choice.specs.Preimages.{findPair}
 use Rattle.fiber_witness.proofs.UpdateLaws.{part-between}
-use Rattle.fiber_choice.proofs.LentLaws.{Along, along-start, along-room}
-use Rattle.fiber_choice.proofs.LaterLaws.{pair-none, pair-found, pair-more}
+use Rattle.fiber_choice.proofs.EntriesLaws.{Along, along-start, along-room}
+use Rattle.fiber_choice.proofs.PreimagesLaws.{pair-none, pair-found, pair-more}
 use borrow.Author.Needs.{needs}
 use Rattle.fiber_walk.proofs.preimage.find_pair.Statement.{statement}
 use Rattle.fiber_walk.proofs.preimage.find_pair.Tie as tie

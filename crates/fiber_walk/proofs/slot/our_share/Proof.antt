@@ -1,5 +1,5 @@
 -- The side by the test of the definition.
-use Rattle.fiber_choice.specs.Choice.{ourSide}
+use Rattle.fiber_choice.specs.Walk.{ourSide}
 use Rattle.fiber_walk.proofs.slot.our_share.Statement.{statement}
 use Rattle.fiber_walk.proofs.slot.our_share.Tie as tie
 

@@ -1,6 +1,6 @@
 -- Both tests of the definition.
-use Rattle.fiber_choice.specs.Choice.{timeoutKind}
-use Rattle.fiber_choice.proofs.LaterLaws.{not-cond}
+use Rattle.fiber_choice.specs.Walk.{timeoutKind}
+use Rattle.fiber_choice.proofs.VerdictsLaws.{not-cond}
 use Rattle.fiber_walk.proofs.slot.timeout_kind.Statement.{statement}
 use Rattle.fiber_walk.proofs.slot.timeout_kind.Tie as tie
 

@@ -1,28 +1,19 @@
--- The buffer's length, then what the writer says.
-use mathlib.Core.Path.{sym, _∙_}
-use Rattle.fiber_bytes.specs.Bytes.{leBytes}
-use Rattle.types_c.proofs.AnswersLaws.{behind}
-use Rattle.settlement_c.proofs.SettlementLaws.{written-short, written-refused, written-bytes}
+-- The buffer's length, then the answer of the writer.
+use Rattle.settlement_c.specs.Settlement.{writtenAnswer, writtenCall, tlcWitnessCall}
+use Rattle.types_c.proofs.AnswersLaws.{call-short, call-by}
 use borrow.Author.Needs.{needs}
 use Rattle.settlement_c.proofs.first.fiber_test_tlc_witness.Statement.{statement}
 use Rattle.settlement_c.proofs.first.fiber_test_tlc_witness.Tie as tie
 
 returns : tie.Need-returns
-returns c = written-short _ _ _ (c .if1 .taken)
+unfolding tlcWitnessCall writtenCall
+returns c = call-short _ _ _ _ _ (search needs)
 
 returns-2 : tie.Need-returns-2
+unfolding tlcWitnessCall writtenCall
 returns-2 c =
-    let told = c .before .before .before .before .before .before .before .before .before in
-    let u = told .before .before .before .before .settlement-tlc-witness .ensures in
-    let a = told .before .before .before .before .before .before .before .before .before .before .args .answer .now in
-    written-bytes _ _ a (search needs) _ (u .1) (told .len .given .0 .0) (sym (told .len .given .1) ∙ u .0) _
-    (behind a (leBytes 8 (told .len .given .0 .0)) (c .before .before .before .before .before .before .put-front .ensures) (c .before .before .put-le64 .ensures))
-
-returns-3 : tie.Need-returns-3
-returns-3 c =
-    let told = c .before .before .before .before .before in
-    let u = told .before .before .before .before .settlement-tlc-witness .ensures in
-    written-refused _ _ _ (search needs) _ (u .1) _ _ (sym (told .number .given .1) ∙ u .0) _ (c .before .before .put-front2 .ensures)
+    let w = c .before .before .before .before .before .before .settlement-tlc-witness .ensures in
+    call-by _ writtenAnswer _ _ _ _ (search needs) _ (w .0) (c .before .before .answer-written .ensures) (w .1)
 
 pub fiber-test-tlc-witness-spec : {M : Type 1} → statement M
 fiber-test-tlc-witness-spec =
@@ -30,14 +21,7 @@ fiber-test-tlc-witness-spec =
     (tie.spec
     returns
     (λ c κs. search needs)
-    (λ c. search needs)
-    (λ c κs. search needs)
-    (λ c κs. search needs)
-    (λ c. search needs)
     (λ c κs. search needs)
     (λ c. search needs)
     (λ c. search needs)
-    returns-2
-    (λ c. search needs)
-    (λ c. search needs)
-    returns-3)
+    returns-2)

@@ -1,23 +1,26 @@
 -- The buffer's length, then the expiry or none.
-use mathlib.Core.Path.{sym, ap, _∙_}
-use Rattle.types_c.specs.Answers.{saidExpiry}
-use Rattle.types_c.proofs.AnswersLaws.{call-short, call-fields}
+use mathlib.Core.Path.{refl, sym, _∙_}
+use Rattle.types_c.specs.Answers.{expiryAnswer, expiryCall}
+use Rattle.types_c.proofs.AnswersLaws.{call-short, call-by}
 use borrow.Author.Needs.{needs}
 use Rattle.types_c.proofs.tests.fiber_test_absolute_expiry.Statement.{statement}
 use Rattle.types_c.proofs.tests.fiber_test_absolute_expiry.Tie as tie
 
 returns : tie.Need-returns
-returns c = call-short 32 _ _ (c .if1 .taken)
+unfolding expiryCall
+returns c = call-short _ _ _ _ _ (search needs)
 
 returns-2 : tie.Need-returns-2
-unfolding saidExpiry
+unfolding expiryCall expiryAnswer
 returns-2 c =
-    call-fields 32 _ _ (search needs) _ (ap saidExpiry (sym (c .before .before .before .before .before .before .before .absolute-expiry .ensures) ∙ c .before .before .before .before .before .ms .given .1)) _ (c .before .before .put-two .ensures)
+    let m = c .before .before .before .before .before .before in
+    call-by _ expiryAnswer _ _ _ _ (search needs) _ (sym (m .ms .given .1) ∙ m .before .before .absolute-expiry .ensures) (c .before .before .accept .ensures) refl
 
 returns-3 : tie.Need-returns-3
-unfolding saidExpiry
+unfolding expiryCall expiryAnswer
 returns-3 c =
-    call-fields 32 _ _ (search needs) _ (ap saidExpiry (sym (c .before .before .before .before .before .before .absolute-expiry .ensures) ∙ c .before .before .before .before .enum-told .given .1)) _ (c .before .before .put-two2 .ensures)
+    let m = c .before .before .before .before .before in
+    call-by _ expiryAnswer _ _ _ _ (search needs) _ (sym (m .enum-told .given .1) ∙ m .before .before .absolute-expiry .ensures) (c .before .before .accept2 .ensures) refl
 
 pub fiber-test-absolute-expiry-spec : {M : Type 1} → statement M
 fiber-test-absolute-expiry-spec =
@@ -26,7 +29,9 @@ fiber-test-absolute-expiry-spec =
     returns
     (λ c κs. search needs)
     (λ c. search needs)
+    (λ c. search needs)
     (λ c κs. search needs)
+    (λ c. search needs)
     (λ c. search needs)
     (λ c κs. search needs)
     (λ c. search needs)

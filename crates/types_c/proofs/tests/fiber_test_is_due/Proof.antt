@@ -1,30 +1,32 @@
--- The buffer's length, then what the due test says.
-use mathlib.Core.Path.{sym, ap, _∙_}
-use Rattle.types_c.specs.Answers.{saidDue}
-use Rattle.types_c.proofs.AnswersLaws.{behind, call-short, call-refused, call-fields}
+-- The buffer's length, then the answer of the due test.
+use mathlib.Core.Path.{refl, sym, _∙_}
+use Rattle.types_c.specs.Answers.{isDueAnswer, isDueCall}
+use Rattle.types_c.proofs.AnswersLaws.{call-short, call-by}
 use borrow.Author.Needs.{needs}
 use Rattle.types_c.proofs.tests.fiber_test_is_due.Statement.{statement}
 use Rattle.types_c.proofs.tests.fiber_test_is_due.Tie as tie
 
 returns : tie.Need-returns
-returns c = call-short 24 _ _ (c .if1 .taken)
+unfolding isDueCall
+returns c = call-short _ _ _ _ _ (search needs)
 
 returns-2 : tie.Need-returns-2
-unfolding saidDue
+unfolding isDueCall isDueAnswer
 returns-2 c =
-    call-fields 24 _ _ (search needs) _ (ap saidDue (sym (c .before .before .before .before .before .before .before .before .before .before .is-due .ensures) ∙ c .before .before .before .before .before .before .before .before .enum-told .given .1)) _
-    (behind _ _ (c .before .before .before .before .before .before .put-front .ensures) (c .before .before .put-le64 .ensures))
+    let m = c .before .before .before .before .before in
+    call-by _ isDueAnswer _ _ _ _ (search needs) _ (sym (m .enum-told .given .1) ∙ m .before .before .is-due .ensures) (c .before .before .accept .ensures) refl
 
 returns-3 : tie.Need-returns-3
-unfolding saidDue
+unfolding isDueCall isDueAnswer
 returns-3 c =
-    call-fields 24 _ _ (search needs) _ (ap saidDue (sym (c .before .before .before .before .before .before .before .before .before .before .is-due .ensures) ∙ c .before .before .before .before .before .before .before .before .enum-told2 .given .1)) _
-    (behind _ _ (c .before .before .before .before .before .before .put-front2 .ensures) (c .before .before .put-le642 .ensures))
+    let m = c .before .before .before .before .before in
+    call-by _ isDueAnswer _ _ _ _ (search needs) _ (sym (m .enum-told2 .given .1) ∙ m .before .before .is-due .ensures) (c .before .before .accept2 .ensures) refl
 
 returns-4 : tie.Need-returns-4
-unfolding saidDue
+unfolding isDueCall isDueAnswer
 returns-4 c =
-    call-refused 24 _ _ (search needs) _ _ (ap saidDue (sym (c .before .before .before .before .before .before .before .is-due .ensures) ∙ c .before .before .before .before .before .number .given .1)) _ (c .before .before .put-front3 .ensures)
+    let m = c .before .before .before .before .before in
+    call-by _ isDueAnswer _ _ _ _ (search needs) _ (sym (m .number .given .1) ∙ m .before .before .is-due .ensures) (c .before .before .refuse .ensures) refl
 
 pub fiber-test-is-due-spec : {M : Type 1} → statement M
 fiber-test-is-due-spec =
@@ -33,10 +35,10 @@ fiber-test-is-due-spec =
     returns
     (λ c κs. search needs)
     (λ c. search needs)
-    (λ c κs. search needs)
-    (λ c κs. search needs)
     (λ c. search needs)
     (λ c κs. search needs)
+    (λ c. search needs)
+    (λ c. search needs)
     (λ c κs. search needs)
     (λ c. search needs)
     (λ c κs. search needs)

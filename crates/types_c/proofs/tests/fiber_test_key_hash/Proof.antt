@@ -1,23 +1,27 @@
 -- The buffer's length, then the hash or the refusal.
-use Rattle.types_c.specs.Answers.{saidKeyAnswer}
-use Rattle.types_c.proofs.AnswersLaws.{behind, call-short, call-refused, call-fields, key-said}
+use mathlib.Core.Path.{refl}
+use Rattle.types_c.specs.Answers.{Answer, keyAnswer, keyCall}
+use Rattle.types_c.proofs.AnswersLaws.{behind, fields-by, call-short, call-by, key-by}
 use borrow.Author.Needs.{needs}
 use Rattle.types_c.proofs.tests.fiber_test_key_hash.Statement.{statement}
 use Rattle.types_c.proofs.tests.fiber_test_key_hash.Tie as tie
 
 returns : tie.Need-returns
-returns c = call-short 36 _ _ (c .if1 .taken)
+unfolding keyCall
+returns c = call-short _ _ _ _ _ (search needs)
 
 returns-2 : tie.Need-returns-2
-unfolding saidKeyAnswer
+unfolding keyCall keyAnswer
 returns-2 c =
-    call-fields 36 _ _ (search needs) _ (key-said _ _ (c .before .before .before .before .before .before .before .before .before .before .before .before .key-hash .ensures) _ (c .before .before .before .before .before .before .before .before .before .enum-told .given .1)) _
-    (behind _ _ (c .before .before .before .before .before .before .before .put-front .ensures) (c .before .before .put .ensures))
+    let m = c .before .before .before .before .before .before .before .before .before in
+    call-by _ (λ (a : Answer). a) _ _ _ _ (search needs) _ (key-by _ _ (m .before .before .before .key-hash .ensures) _ (m .enum-told .given .1))
+    (fields-by _ _ (behind _ _ (c .before .before .before .before .before .before .before .put-front .ensures) (c .before .before .put .ensures))) refl
 
 returns-3 : tie.Need-returns-3
-unfolding saidKeyAnswer
+unfolding keyCall keyAnswer
 returns-3 c =
-    call-refused 36 _ _ (search needs) _ _ (key-said _ _ (c .before .before .before .before .before .before .before .before .key-hash .ensures) _ (c .before .before .before .before .before .said .given .1)) _ (c .before .before .put-front2 .ensures)
+    let m = c .before .before .before .before .before in
+    call-by _ (λ (a : Answer). a) _ _ _ _ (search needs) _ (key-by _ _ (m .before .before .before .key-hash .ensures) _ (m .hashed .given .1)) (c .before .before .refuse .ensures) refl
 
 pub fiber-test-key-hash-spec : {M : Type 1} → statement M
 fiber-test-key-hash-spec =

@@ -3,8 +3,8 @@ use native.Mathlib.Omega.{arith}
 use mathlib.Core.Path.{ap, _∙_}
 use borrow.Author.Tests.{not-true, not-false}
 use Rattle.fiber_since.specs.declared.epoch.Scaled.the-variants as scaled·
-use Rattle.fiber_choice.specs.Choice.{ofMetric}
-use Rattle.fiber_choice.proofs.LaterLaws.{delay-short, delay-absolute, delay-metric}
+use Rattle.fiber_choice.specs.Request.{ofMetric}
+use Rattle.fiber_choice.proofs.RequestLaws.{delay-short, delay-absolute, delay-metric}
 use borrow.Author.Needs.{needs}
 use Rattle.watchtower.proofs.choice.delay_of.Statement.{statement}
 use Rattle.watchtower.proofs.choice.delay_of.Tie as tie

@@ -1,0 +1,50 @@
+// The key of a TLC: the settlement TLC whose local key signs for it.
+use fiber_bytes::part_of;
+use fiber_choice::kinds::Found;
+use fiber_choice::kinds::SETTLEMENT_TLC;
+use fiber_first::entries::same;
+use fiber_types::key::PUBLIC_KEY;
+use fiber_types::key::key_hash;
+ghost use mathlib.Core.Path.{_≡_};
+ghost use Prim.Native.Nat.{_≤_};
+ghost use lib.ListN.{length};
+ghost use Rattle.fiber_choice.specs.Entries.{entries, settlementLen};
+ghost use Rattle.fiber_choice.specs.Verdicts as S;
+
+// Whether a settlement TLC's local key hashes to a key hash.
+fn is_key(tlc: &[u8], ours: &[u8]) -> bool
+    ensures { λ r. ⌜ r ≡ S.isKey (now (tlc .entry)) (now (ours .entry)) ⌝ }
+{
+    let key = key_hash(part_of(tlc, 58, PUBLIC_KEY));
+    let bytes = key.bytes;
+    same(&bytes, ours)
+}
+
+// The first settlement TLC whose hash begins with start and whose local key hashes to ours. A key is hashed only where the
+// hash fits.
+fn find_key(tlcs: &[u8], start: &[u8], ours: &[u8]) -> Found
+    requires { ⌜ length (now start) ≤ 32 ⌝ }
+    ensures { λ r. ⌜ r ≡ S.findKey 0 (entries settlementLen (now (tlcs .entry))) (now (start .entry)) (now (ours .entry)) ⌝ }
+{
+    let n = tlcs.len() / SETTLEMENT_TLC;
+    let mut at = 0;
+    for i in 0..n {
+        let tlc = &tlcs[at..at + SETTLEMENT_TLC];
+        if same(part_of(tlc, 18, start.len()), start) {
+            if is_key(tlc, ours) {
+                return Found::At(i);
+            }
+        }
+        at += SETTLEMENT_TLC;
+    }
+    Found::None
+}
+
+// The key of a TLC's record: by the hash, and by our slot's key hash in the record.
+pub fn key_of(h: usize, for_remote: bool, tlcs: &[u8], tlc: &[u8]) -> Found
+    requires { ⌜ h ≤ 32 ⌝ }
+    ensures { λ r. ⌜ r ≡ S.keyOf h «for_remote» (entries settlementLen (now (tlcs .entry))) (now (tlc .entry)) ⌝ }
+{
+    let at = if for_remote { 37 + h } else { 17 + h };
+    find_key(tlcs, part_of(tlc, 17, h), part_of(tlc, at, 20))
+}

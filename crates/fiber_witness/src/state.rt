@@ -1,0 +1,117 @@
+// The writer of a state, for the update and for what a choice hands out: the count, the records that are not marked, both shares.
+use crate::unlocks::no_marks;
+use crate::witness::SHARE;
+use fiber_bytes::put;
+use fiber_types::tlc::TLC_FIXED;
+ghost use mathlib.Core.Path.{_≡_};
+ghost use mathlib.Core.List.{[], _∷_};
+ghost use Prim.Native.Nat.{_+_, _*_, _≤_};
+ghost use lib.ListN.{length};
+ghost use lib.Seq.{sets};
+ghost use Rattle.fiber_bytes.specs.Bytes.{part};
+ghost use Rattle.fiber_witness.specs.Witness.{recordLen, flat, stateBytes};
+ghost use Rattle.fiber_witness.specs.Update.{shareLeft};
+ghost use Rattle.fiber_witness.specs.inner.Marks.{Marks};
+ghost use Rattle.fiber_witness.specs.inner.Strided.{unmarked};
+
+// One mark alone.
+pub fn one_mark(place: usize) -> [bool; 256]
+    requires { ⌜ place ≤ 255 ⌝ }
+    ensures { λ r. ⌜ Marks r (place ∷ []) ⌝ }
+{
+    let mut marks = no_marks();
+    marks[place] = true;
+    marks
+}
+
+// The share of 36 bytes that w has at from, or zeros once it is unlocked.
+pub fn share_left(w: &[u8], from: usize, unlocked: bool) -> [u8; 36]
+    requires { ⌜ from + 36 ≤ length (now w) ⌝ }
+    ensures { λ r. ⌜ r ≡ shareLeft unlocked (part (now (w .entry)) from 36) ⌝ }
+{
+    let mut share = [0u8; 36];
+    if !unlocked {
+        put(&mut share, 0, &w[from..from + SHARE]);
+    }
+    share
+}
+
+// Writes a record to the front of out, the part of the output where it belongs.
+fn put_record(tlc: &[u8], out: &mut [u8])
+    ensures { λ _. ⌜ now (out .exit) ≡ sets (now (out .entry)) 0 (now (tlc .entry)) ⌝ }
+{
+    put(out, 0, tlc);
+}
+
+// Writes those of n records that are not marked, one behind the other from byte 1 on; answers where they end. The first is at from,
+// and they stand stride bytes apart.
+fn put_records(
+    source: &[u8],
+    from: usize,
+    stride: usize,
+    h: usize,
+    n: usize,
+    marks: [bool; 256],
+    out: &mut [u8],
+) -> usize
+    requires { ⌜ (h ≤ 32) × ((n ≤ 255) × (stride ≤ 130)) ⌝ }
+    requires { ⌜ from + n * stride + recordLen h ≤ length (now source) + stride ⌝ }
+    requires { ⌜ 1 + length (flat (unmarked h (now source) from stride n marks)) ≤ length (now out) ⌝ }
+    ensures { λ r. ⌜ r ≡ 1 + length (flat (unmarked h (now (source .entry)) from stride n marks)) ⌝ }
+    ensures { λ _. ⌜ now (out .exit) ≡ sets (now (out .entry)) 1 (flat (unmarked h (now (source .entry)) from stride n marks)) ⌝ }
+{
+    let size = TLC_FIXED + h;
+    let mut place = from;
+    let mut at = 1;
+    for i in 0..n {
+        if !marks[i] {
+            put_record(&source[place..place + size], &mut out[at..]);
+            at += size;
+        }
+        place += stride;
+    }
+    at
+}
+
+// Writes a share, or zeros in its place once it is unlocked.
+fn put_share(share: &[u8], unlocked: bool, out: &mut [u8], at: usize)
+    ensures { λ _. ⌜ now (out .exit) ≡ sets (now (out .entry)) at (shareLeft unlocked (now (share .entry))) ⌝ }
+{
+    if unlocked {
+        let zeros = [0u8; 36];
+        put(out, at, &zeros);
+    } else {
+        put(out, at, share);
+    }
+}
+
+// Writes a state to the front of out: k records, of n in source, that are not marked, and the shares that are not unlocked.
+// Answers its length.
+pub fn put_state(
+    source: &[u8],
+    from: usize,
+    stride: usize,
+    h: usize,
+    n: usize,
+    marks: [bool; 256],
+    k: usize,
+    remote: &[u8],
+    remote_unlocked: bool,
+    local: &[u8],
+    local_unlocked: bool,
+    out: &mut [u8],
+) -> usize
+    requires { ⌜ (h ≤ 32) × ((n ≤ 255) × (stride ≤ 130)) ⌝ }
+    requires { ⌜ from + n * stride + recordLen h ≤ length (now source) + stride ⌝ }
+    requires { ⌜ k ≡ length (unmarked h (now source) from stride n marks) ⌝ }
+    requires { ⌜ (length (now remote) ≡ 36) × (length (now local) ≡ 36) ⌝ }
+    requires { ⌜ 73 + length (flat (unmarked h (now source) from stride n marks)) ≤ length (now out) ⌝ }
+    ensures { λ r. ⌜ r ≡ length (stateBytes (unmarked h (now (source .entry)) from stride n marks) (shareLeft «remote_unlocked» (now (remote .entry))) (shareLeft «local_unlocked» (now (local .entry)))) ⌝ }
+    ensures { λ _. ⌜ now (out .exit) ≡ sets (now (out .entry)) 0 (stateBytes (unmarked h (now (source .entry)) from stride n marks) (shareLeft «remote_unlocked» (now (remote .entry))) (shareLeft «local_unlocked» (now (local .entry)))) ⌝ }
+{
+    out[0] = k as u8;
+    let at = put_records(source, from, stride, h, n, marks, out);
+    put_share(remote, remote_unlocked, out, at);
+    put_share(local, local_unlocked, out, at + SHARE);
+    at + 72
+}

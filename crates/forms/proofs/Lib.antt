@@ -1,0 +1,2 @@
+-- What proofs of walks cite.
+pub mod Lending
