@@ -12,9 +12,9 @@ use lib.Seq.{drop-cons}
 use lib.Dec.{eqb}
 use borrow.Author.Tests.{ne-eqb, eqb-false}
 use Rattle.fiber_types.specs.Records.{validHashLen}
-use Rattle.fiber_witness.specs.declared.unlocks.UnlocksAnswer.the-variants as unlocks·
 use Rattle.fiber_witness.specs.Witness.{member}
-use Rattle.fiber_witness.specs.Update.{none}
+use Rattle.fiber_witness.specs.Update.{Taken, none}
+use Rattle.fiber_witness.proofs.UpdateLaws.{Ends}
 use Rattle.fiber_witness.proofs.WitnessLaws.{member-none, member-more}
 use Rattle.fiber_witness.proofs.UnlocksLaws.{unlocks-read}
 use Rattle.fiber_choice.specs.declared.kinds.Side.{Side}
@@ -26,7 +26,7 @@ use Rattle.book.specs.Demand3.{HostCall, OfChannel, no-call, one-more, F
 use Rattle.book.proofs.StateLaws.{tlcs-of, share-of, first-count, first-sound, first-state}
 use Rattle.book.proofs.StandingLaws.{recordsAt, unsettled-none}
 use Rattle.book.proofs.SharesLaws.{left-none}
-use Rattle.book.proofs.BookLaws.{standingOf, SoundBook, sumOf, after, Stays, Moves, witness, unlocks, behind-state, took, paymentsOf, turn, turn-kept, turn-sound}
+use Rattle.book.proofs.BookLaws.{standingOf, SoundBook, sumOf, after, Stays, Moves, witness, unlocks, behind-state, sharesAt, took, paymentsOf, turn, turn-kept, turn-sound}
 use Rattle.book.proofs.PaymentsLaws.{Account, worthOf, Pays, pays-none, pays-append, append-total, once-stood, once-gone, Goes, goes, goes-remain, goes-pays}
 
 -- ---- a book, and what is observed beside it
@@ -95,14 +95,14 @@ module _ (h : ℕ) (rs : List (List ℕ)) (b : Book) (c : HostCall) (g : Good h 
   observe-moves e = let f : shareIn h (stateOf b) ≡ b .shares = fun-ext (share-is g) in rw (e, tlcs-are g, f, ← g .records)
 
   -- the unlocks of an accepted call go one after the other
-  went : took b c .answer ≡ unlocks·.Fine → Goes (length (b .standing)) none (map payeeOf (unlocks c)) (took b c .taken)
-  went v =
-      subst (λ (n : ℕ). Goes n none (map payeeOf (unlocks c)) (took b c .taken)) (length-map (b .standing) (λ (i : ℕ). getD (b .tlcs) i []))
-      (goes (length (standingOf b)) (unlocks-read (witness b c) (1 + length (stateOf b)) (c .behind) (behind-state b c)) none v)
+  went : (t : Taken) → Ends (took h b c) t → Goes (length (b .standing)) none (map payeeOf (unlocks c)) t
+  went t v =
+      subst (λ (n : ℕ). Goes n none (map payeeOf (unlocks c)) t) (length-map (b .standing) (λ (i : ℕ). getD (b .tlcs) i []))
+      (goes (length (standingOf b)) (sharesAt h b) (unlocks-read (witness b c) (1 + length (stateOf b)) (c .behind) (behind-state b c)) none t v)
 
   -- and pay
-  moved-after : Goes (length (b .standing)) none (map payeeOf (unlocks c)) (took b c .taken) → Moved rs b (paymentsOf b c) (after b (took b c .taken) sum)
-  moved-after w = record {
+  moved-after : (t : Taken) → Goes (length (b .standing)) none (map payeeOf (unlocks c)) t → Moved rs b (paymentsOf b c) (after b t sum)
+  moved-after t w = record {
     pays =
         rw (unsettled-none 0 (b .standing), left-none (b .shares)) at
         (goes-pays rs (standingOf b) (b .standing) (b .shares) (ap (λ (l : List (List ℕ)). recordsAt l (b .standing)) (g .records)) w
@@ -116,25 +116,25 @@ module _ (h : ℕ) (rs : List (List ℕ)) (b : Book) (c : HostCall) (g : Good h 
   follows of =
       let t = turn h b (g .sound) c of in
       let e = enter b (lengths c) in
-      let kept = turn-kept b c (took b c) sum e (t .how) in
-      let sound = turn-sound b c (took b c) sum e h (hostTransition (stateOf b) c .answer) (g .sound) (t .how) in
+      let kept = turn-kept b c (took h b c) sum e (t .how) in
+      let sound = turn-sound b c (took h b c) sum e h (hostTransition (stateOf b) c .answer) (g .sound) (t .how) in
       go (t .how) (λ i. record { answer = t .same i; next = kept i }) kept sound
     where
-      go : Stays b (hostTransition (stateOf b) c .answer) (enter b (lengths c)) ⊎ Moves b (took b c) sum (hostTransition (stateOf b) c .answer) (enter b (lengths c))
+      go : Stays b (hostTransition (stateOf b) c .answer) (enter b (lengths c)) ⊎ Moves b (took h b c) sum (hostTransition (stateOf b) c .answer) (enter b (lengths c))
           → hostTransition (stateOf b) c ≡ visible (bookTransition b c) → hostTransition (stateOf b) c .next ≡ stateOf (enter b (lengths c) .next) → SoundBook h (enter b (lengths c) .next)
           → Follows h rs b c (observe h (observedOf b) c)
       go (inl s) same kept sound =
           rw (observe-stays (s .status))
           (record { same = same; next = rw (s .book); good = rw (s .book) g; moves = rw (s .book) (moved-none rs b) })
       go (inr m) same kept sound =
-          let w = went (m .fine) in
+          let w = went (m .taken) (m .ends) in
           let firsts : remain (map payeeOf (unlocks c)) 0 (b .standing) ≡ enter b (lengths c) .next .standing = goes-remain w refl (b .standing) ∙ sym (ap (λ (x : Book). x .standing) (m .book)) in
           rw (observe-moves (m .status))
           (record {
             same = same;
             next = rw (kept, firsts);
             good = record { sound = sound; records = ap (λ (x : Book). x .tlcs) (m .book) ∙ g .records };
-            moves = rw (← m .book) at (moved-after w);
+            moves = rw (← m .book) at (moved-after (m .taken) w);
           })
 
 -- ---- all calls

@@ -3,37 +3,43 @@
 use Prim.Native.Nat.{ℕ, _≤_}
 use native.Mathlib.Omega.{arith}
 use mathlib.Core.Path.{_≡_, refl, ap}
+use mathlib.Core.Bool.{Bool}
 use mathlib.Core.List.{List, [], _∷_, _++_}
 use lib.ListN.{length, getD}
 use lib.Seq.{sets}
 use borrow.Author.Tests.{ne-eqb}
 use Rattle.fiber_bytes.specs.Bytes.{part, leBytes}
+use Rattle.fiber_types.specs.declared.answer.Written.{Written}
 use Rattle.fiber_types.specs.declared.answer.Written.the-variants as written·
 use Rattle.fiber_types.specs.declared.tlc.Amount.{Amount}
-use Rattle.fiber_types.specs.Records.{Outcome}
+use Rattle.fiber_types.specs.Records.{Outcome, amountOf}
 use Rattle.fiber_choice.specs.declared.kinds.Side.{Side}
 use Rattle.fiber_choice.specs.declared.kinds.Side.the-variants.{Remote, Local}
 use Rattle.fiber_choice.specs.declared.kinds.Choice.{Choice}
 use Rattle.fiber_choice.specs.declared.kinds.Choice.the-variants as choice·
 use Rattle.fiber_choice.specs.declared.kinds.Decision.{Decision}
 use Rattle.fiber_choice.specs.Request.{Request}
-use Rattle.fiber_choice.specs.Promises.{Accepted}
-use Rattle.fiber_choice.proofs.HandedLaws.{even-at}
-use Rattle.fiber_choice.proofs.PromisesLaws.{Names, Parts, handed-parts, handed-accepted}
+use Rattle.fiber_choice.specs.Promises.{Promised}
+use Rattle.fiber_witness.proofs.WitnessLaws.{even-at}
+use Rattle.fiber_choice.proofs.PromisesLaws.{Names, Parts, handed-parts, promises}
 use Rattle.settlement_c.specs.Settlement.{OutCall, updateCall}
 use Rattle.settlement_c.proofs.SettlementLaws.{called, update-written, written-bytes}
 use Rattle.book.specs.Book.{shareAmount, tlcsIn, shareIn, payeeOf}
-use Rattle.book.specs.Demand3.{hostTransition, payments, observe}
-use Rattle.book.specs.Paid.{payeeBy, paymentBy, PaysAmount}
+use Rattle.book.specs.Demand3.{hostTransition, Payment, payments, observe}
+use Rattle.book.specs.Paid.{payeeBy, PaysAmount}
 use Rattle.book.proofs.AmountLaws.{tlc-amount, share-amount}
 use Rattle.book.proofs.StateLaws.{SoundParts, tlcs-of, share-of}
 
+-- the payment of an amount that a choice answers
+abbrev paymentBy : List ℕ → Choice → Amount → Payment
+paymentBy firsts choice amount = record { to = payeeBy firsts choice; amount = amountOf amount }
+
 module _ (q : Request) (d : Decision) (bytes : List ℕ) (p : Parts q d bytes) where
   abbrev state : List ℕ
-  state = part bytes (d .unlock) (d .state)
+  state = part bytes (d .«unlock_len») (d .«state_len»)
 
   abbrev unlock : List ℕ
-  unlock = part bytes 0 (d .unlock)
+  unlock = part bytes 0 (d .«unlock_len»)
 
   abbrev shares : Side → List ℕ
   shares Remote = p .remote
@@ -71,17 +77,17 @@ module _ (q : Request) (d : Decision) (bytes : List ℕ) (p : Parts q d bytes) w
           )
 
   -- the update takes it
-  accepts : Accepted q d bytes → (count : ℕ) (into answer : List ℕ) → d .state ≤ length into → 24 ≤ length answer
+  accepts : {isLater : Bool} {w out : List ℕ} → Promised q isLater w out bytes d → (count : ℕ) (into answer : List ℕ) → d .«state_len» ≤ length into → 24 ≤ length answer
       → updateCall (q .h) (count ∷ (state ++ unlock)) into answer .status ≡ 0
   accepts x count into answer f g =
       let len = length (x .left) in
-      let o : Outcome = record { answer = written·.Bytes len; bytes = sets into 0 (x .left) } in
+      let o : Outcome Written = record { answer = written·.Bytes len; bytes = sets into 0 (x .left) } in
       let fields : List ℕ = sets answer 0 ((leBytes 8 0 ++ leBytes 8 0) ++ leBytes 8 len) in
       rw (update-written (q .h) (count ∷ (state ++ unlock)) into answer, x .updates count into (omega (arith, x .room)))
       (ap (λ (r : OutCall). r .status) (called (written-bytes o into answer g (o .bytes) refl len refl fields refl)))
 
   -- and one payment is counted
-  observed : Accepted q d bytes → (firsts : List ℕ) (count : ℕ) (into answer : List ℕ) → d .state ≤ length into → 24 ≤ length answer
+  observed : {isLater : Bool} {w out : List ℕ} → Promised q isLater w out bytes d → (firsts : List ℕ) (count : ℕ) (into answer : List ℕ) → d .«state_len» ≤ length into → 24 ≤ length answer
       → observe (q .h) (record { state = state; firsts = firsts }) (record { h = q .h; count = count; behind = unlock; out = into; answer = answer }) .answer
       ≡ paymentBy firsts (d .choice) (d .amount) ∷ []
   unfolding observe hostTransition
@@ -90,4 +96,4 @@ module _ (q : Request) (d : Decision) (bytes : List ℕ) (p : Parts q d bytes) w
 -- The amount that a choice answers is what its unlock pays.
 pub pays-amount : PaysAmount
 pays-amount q isLater w out d e firsts count into answer f g =
-    observed q d _ (handed-parts q isLater w out d e) (handed-accepted q isLater w out d e) firsts count into answer f g
+    observed q d _ (handed-parts q isLater w out d e) (promises q isLater w out d e) firsts count into answer f g

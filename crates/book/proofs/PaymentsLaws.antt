@@ -3,20 +3,18 @@
 use Prim.Native.Nat.{ℕ, zero, suc, _+_, _<_}
 use native.Mathlib.Nat.{zero-add}
 use native.Mathlib.Omega.{arith}
-use mathlib.Core.Path.{_≡_, refl, sym, ap, _∙_}
+use mathlib.Core.Path.{_≡_, refl, sym, ap, subst, _∙_}
 use mathlib.Core.Bool.{Bool, true, false, cond, _||_, or-false, false≢true}
 use mathlib.Core.List.{List, [], _∷_, _++_, map}
 use lib.ListN.{length, getD, replicate, length-append, replicate-append-replicate}
 use lib.Dec.{ltb, eqb}
 use borrow.Author.Tests.{ltb-true, eqb-true}
 use Rattle.fiber_bytes.proofs.CaseLaws.{by-test, by-test₂}
-use Rattle.fiber_witness.specs.declared.unlocks.UnlocksAnswer.the-variants as unlocks·
-use Rattle.fiber_witness.specs.Unlocks.{beginnings}
 use Rattle.fiber_witness.specs.Witness.{member}
-use Rattle.fiber_witness.specs.Update.{Taken, TakenUnlocks, takeUnlocks}
+use Rattle.fiber_witness.specs.Update.{Taken, Unlocked, takeUnlocks}
 use Rattle.fiber_witness.proofs.WitnessLaws.{member-none, member-more}
-use Rattle.fiber_witness.proofs.UnlocksLaws.{beginnings-none, beginnings-more, Reads, reads-rest, reads-more}
-use Rattle.fiber_witness.proofs.UpdateLaws.{unlocks-none, unlocks-more}
+use Rattle.fiber_witness.proofs.UnlocksLaws.{beginnings, beginnings-none, beginnings-more, Reads, reads-rest, reads-more}
+use Rattle.fiber_witness.proofs.UpdateLaws.{unlocks-none, unlocks-more, Ends}
 use Rattle.fiber_choice.specs.declared.kinds.Side.{Side}
 use Rattle.fiber_choice.specs.declared.kinds.Side.the-variants.{Remote, Local}
 use Rattle.book.specs.Book.{tlcAmount, shareAmount, Payee, share, tlc, payeeOf, sameSide, change}
@@ -208,24 +206,24 @@ pub data Goes (n : ℕ) : Taken → List Payee → Taken → Type 0 where
   goes-tlc : {t u : Taken} {i : ℕ} {us : List Payee} → i < n → member i (t .settled) ≡ false
       → Goes n (record { settled = i ∷ t .settled; remote = t .remote; local = t .local }) us u → Goes n t (tlc i ∷ us) u
 
--- unlocks that are all taken goes so
-pub goes : {w : List ℕ} {at : ℕ} {us : List (List ℕ)} {rest : List ℕ} (n : ℕ) → Reads w at us rest → (t : Taken)
-    → takeUnlocks n w t (beginnings at us) .answer ≡ unlocks·.Fine → Goes n t (map payeeOf us) (takeUnlocks n w t (beginnings at us) .taken)
+-- unlocks that are all taken go so
+pub goes : {w : List ℕ} {at : ℕ} {us : List (List ℕ)} {rest : List ℕ} (n from : ℕ) → Reads w at us rest → (t x : Taken)
+    → Ends (takeUnlocks n from w t (beginnings at us)) x → Goes n t (map payeeOf us) x
 unfolding payeeOf
-goes n (reads-rest {at = at} e f) t = rw (beginnings-none at, unlocks-none) (λ v. goes-end)
-goes {w = w} {at = at} n (reads-more {u = u} {us = us} k room byte r) t =
-    let P : Payee → TakenUnlocks → Type 0 = λ who j. j .answer ≡ unlocks·.Fine → Goes n t (who ∷ map payeeOf us) (j .taken) in
+goes n from (reads-rest {at = at} e f) t x = rw (beginnings-none at, unlocks-none) (λ v. subst (Goes n t []) v goes-end)
+goes {w = w} {at = at} n from (reads-more {u = u} {us = us} k room byte r) t x =
+    let P : Payee → Unlocked → Type 0 = λ who j. Ends j x → Goes n t (who ∷ map payeeOf us) x in
     let i = getD u 0 0 in
-    rw (beginnings-more at u us, unlocks-more n w t at (beginnings (at + length u) us), ← byte)
+    rw (beginnings-more at u us, unlocks-more n from w t at (beginnings (at + length u) us), ← byte)
     (by-test₂ P (eqb i 255) _ _ _ _
-    (λ _ v. goes-share Local (goes n r _ v))
+    (λ _ v. goes-share Local (goes n from r _ x v))
     (λ _. by-test₂ P (eqb i 254) _ _ _ _
-    (λ _ v. goes-share Remote (goes n r _ v))
+    (λ _ v. goes-share Remote (goes n from r _ x v))
     (λ _. by-test (P (tlc i)) (ltb i n) _ _
     (λ z. by-test (P (tlc i)) (member i (t .settled)) _ _
-    (λ _ v. let o : _≡_ {A = ℕ} 0 1 = cc in absurd (omega arith))
-    (λ m v. goes-tlc (ltb-true _ _ z) m (goes n r _ v)))
-    (λ _ v. let o : _≡_ {A = ℕ} 0 1 = cc in absurd (omega arith)))))
+    (λ _ v. absurd v)
+    (λ m v. goes-tlc (ltb-true _ _ z) m (goes n from r _ x v)))
+    (λ _ v. absurd v))))
 
 -- ---- which TLCs they settle
 

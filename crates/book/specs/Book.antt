@@ -116,30 +116,30 @@ pub record Call (Buffer : Type 0) : Type 0 where
   pub answer : Buffer
 
 -- the length of the state left, or the row's number and place; with a short answer buffer the number alone
-pub data Answer : Type 0 where
-  alone : ℕ → Answer
-  refused : ℕ → ℕ → Answer
-  wrote : ℕ → Answer
+pub data BookAnswer : Type 0 where
+  alone : ℕ → BookAnswer
+  refused : ℕ → ℕ → BookAnswer
+  wrote : ℕ → BookAnswer
 
 -- a call that is turned down changes nothing
-abbrev pub unmoved : Answer → Book → Transition Book Answer
+abbrev pub unmoved : BookAnswer → Book → Transition Book BookAnswer
 unmoved a before = record { answer = a; next = before }
 
 -- behind the last unlock, where the output has room for the state left
-unfoldable pub close : ℕ → Book → Book → Transition Book Answer
+unfoldable pub close : ℕ → Book → Book → Transition Book BookAnswer
 close room before b =
     let len = length (stateOf b) in
     cond (leb len room) (record { answer = wrote len; next = b }) (unmoved (refused 13 len) before)
 
 -- the unlocks in order, the first at a place
-unfoldable pub run : ℕ → Book → ℕ → Book → List (List ℕ) → Transition Book Answer
+unfoldable pub run : ℕ → Book → ℕ → Book → List (List ℕ) → Transition Book BookAnswer
 run room before at b [] = close room before b
 run room before at b (u ∷ us) =
     let next = run room before (at + length u) (pay before (payeeOf u) b) us in
     unlessFaulty before (payeeOf u) b (λ number. unmoved (refused number at) before) next
 
 -- The answer has number 8, place 8, length 8. The first unlock stands behind a count byte and the state.
-unfoldable pub enter : Book → Call ℕ → Transition Book Answer
+unfoldable pub enter : Book → Call ℕ → Transition Book BookAnswer
 enter b c =
     let at = 1 + length (stateOf b) in
     let u = unlocksIn (c .behind) in

@@ -4,7 +4,7 @@ use Prim.Native.Nat.{ℕ, zero, suc, _+_, _*_, _≤_, _<_}
 use mathlib.Core.Path.{_≡_}
 use mathlib.Core.Bool.{Bool, true, false, cond, _||_}
 use mathlib.Core.Logic.{_⊎_}
-use mathlib.Core.List.{List, [], _∷_, _++_, map, flatMap}
+use mathlib.Core.List.{List, [], _∷_, _++_, map, flatMap, foldr}
 use lib.ListN.{length, getD, take, replicate}
 use lib.Seq.{sets}
 use lib.Dec.{eqb}
@@ -33,7 +33,7 @@ use Rattle.book.specs.Book.{
   sameSide,
   change,
   Call,
-  Answer,
+  BookAnswer,
   alone,
   refused,
   wrote,
@@ -66,7 +66,7 @@ hostTransition s c =
 -- ---- the book's calls
 
 -- return value and buffers for the book's answer and its state after the call
-unfoldable pub returned : HostCall → Answer → List ℕ → OutCall
+unfoldable pub returned : HostCall → BookAnswer → List ℕ → OutCall
 returned c (alone number) state = record { status = number; out = c .out; answer = c .answer }
 returned c (refused number place) state = record { status = number; out = c .out; answer = sets (c .answer) 0 (leBytes 8 number ++ leBytes 8 place) }
 returned c (wrote len) state = record { status = 0; out = sets (c .out) 0 state; answer = sets (c .answer) 0 ((leBytes 8 0 ++ leBytes 8 0) ++ leBytes 8 len) }
@@ -103,8 +103,7 @@ samePayee (tlc i) (share b) = false
 samePayee (tlc i) (tlc j) = eqb i j
 
 unfoldable pub isPaid : Payee → List Payee → Bool
-isPaid who [] = false
-isPaid who (p ∷ ps) = samePayee who p || isPaid who ps
+isPaid who ps = foldr _||_ false (map (samePayee who) ps)
 
 -- of first places, for the TLCs at i, i + 1, .., those that the unlocks leave
 unfoldable pub remain : List Payee → ℕ → List ℕ → List ℕ
@@ -150,8 +149,7 @@ paidTo who (p ∷ ps) =
     cond (samePayee who (p .to)) (p .amount ∷ next) next
 
 unfoldable pub total : List ℕ → ℕ
-total [] = 0
-total (x ∷ xs) = x + total xs
+total = foldr _+_ 0
 
 -- an amount once, then nothing k - 1 times; none at all where k is 0
 unfoldable pub onceOf : ℕ → ℕ → List ℕ
@@ -179,9 +177,11 @@ pub record Holds (h : ℕ) (s : List ℕ) (cs : List HostCall) : Type 0 where
   pub calls : trace hostTransition s cs ≡ map visible (trace bookTransition (opening h s) cs)
   pub last-state : final hostTransition s cs ≡ stateOf (final bookTransition (opening h s) cs)
   -- "each share is paid in full at its first unlock in an accepted call and nothing later"
-  pub share-once : (side : Side) → paidTo (share side) (allPaid h s cs) ≡ onceOf (length (paidTo (share side) (allPaid h s cs))) (shareAmount (shareIn h s side))
+  pub share-once : (side : Side)
+      → paidTo (share side) (allPaid h s cs) ≡ onceOf (length (paidTo (share side) (allPaid h s cs))) (shareAmount (shareIn h s side))
   -- "each TLC of the first state, by its place there, is paid exactly once or else still stands"
-  pub tlc-once : (i : ℕ) → i < getD s 0 0 → paidTo (tlc i) (allPaid h s cs) ≡ cond (member i (allStanding h s cs)) [] (tlcAmount (getD (tlcsIn h s) i []) ∷ [])
+  pub tlc-once : (i : ℕ) → i < getD s 0 0
+      → paidTo (tlc i) (allPaid h s cs) ≡ cond (member i (allStanding h s cs)) [] (tlcAmount (getD (tlcsIn h s) i []) ∷ [])
   -- no other TLC is paid
   pub no-other : (i : ℕ) → getD s 0 0 ≤ i → paidTo (tlc i) (allPaid h s cs) ≡ []
   -- "bytes and order kept"
@@ -191,7 +191,8 @@ pub record Holds (h : ℕ) (s : List ℕ) (cs : List HostCall) : Type 0 where
   pub sum : total (map (λ (p : Payment). p .amount) (allPaid h s cs)) + worth h (final hostTransition s cs) ≡ worth h s
   pub book-sum : final bookTransition (opening h s) cs .paid ≡ total (map (λ (p : Payment). p .amount) (allPaid h s cs))
   -- "one share's unlock never alters the other's amount or key hash": a share changes by its own unlocks alone
-  pub share-apart : (side : Side) → shareIn h (final hostTransition s cs) side ≡ shareAfter (paidTo (share side) (allPaid h s cs)) (shareIn h s side)
+  pub share-apart : (side : Side)
+      → shareIn h (final hostTransition s cs) side ≡ shareAfter (paidTo (share side) (allPaid h s cs)) (shareIn h s side)
 
 abbrev pub Demand3 : Type 0
 Demand3 = (h : ℕ) (s : List ℕ) → FirstState h s → (cs : List HostCall) → OfChannel h cs → Holds h s cs

@@ -8,9 +8,9 @@ use native.Mathlib.Omega.{arith}
 use lib.ListN.{length, getD, set, take, drop, length-append, length-take, length-set}
 use lib.Seq.{take-suc, take-suc-set, take-all, take-at, take-nil, take-append-add, sets, sets-eq, length-sets}
 use lib.Bits.{bitXor}
-use Rattle.fiber_bytes.specs.Bytes.{part, le, leBytes}
+use Rattle.fiber_bytes.specs.Bytes.{part, le, leBytes, numbers}
 use Rattle.fiber_bytes.specs.Words.{rotated}
-use Rattle.fiber_blake2b.specs.Blake2b.{iv, sigma, added, turned, half, mixed, columns, diagonals, picked, round, rounds, start, folded, words, compressed, absorbed, hashed, ones, wordsBytes, params, initial, chain, blake2b, ckbPersonal, ckbHash}
+use Rattle.fiber_blake2b.specs.Blake2b.{iv, sigma, added, turned, half, mixed, columns, diagonals, picked, round, rounds, start, folded, words, compressed, absorbed, hashed, params, initial, chain, blake2b, ckbPersonal, ckbHash}
 use Rattle.fiber_bytes.proofs.BytesLaws.{leBytes-length}
 
 -- G
@@ -96,11 +96,11 @@ pub absorbed-more : (h₀ s h k : List ℕ) (i : ℕ) → h ≡ absorbed i h₀ 
 unfolding absorbed
 absorbed-more h₀ s h k i e f = rw add-one (cc)
 
-pub hashed-by : (h₀ s h k : List ℕ) (n i : ℕ) → n ≡ (length s - 1) / 128 → i ≤ n → n ≤ i → h ≡ absorbed i h₀ s → k ≡ compressed h (words 16 s (n * 128)) (length s) ones → k ≡ hashed h₀ s
+pub hashed-by : (h₀ s h k : List ℕ) (n i : ℕ) → n ≡ (length s - 1) / 128 → i ≤ n → n ≤ i → h ≡ absorbed i h₀ s → k ≡ compressed h (words 16 s (n * 128)) (length s) 0xffff_ffff_ffff_ffff → k ≡ hashed h₀ s
 unfolding hashed
 hashed-by h₀ s h k n i e l g p q =
     let d : i ≡ (length s - 1) / 128 = omega arith in
-    q ∙ ap₂ (λ (a : List ℕ) (b : ℕ). compressed a (words 16 s (b * 128)) (length s) ones) (p ∙ ap (λ (b : ℕ). absorbed b h₀ s) d) e
+    q ∙ ap₂ (λ (a : List ℕ) (b : ℕ). compressed a (words 16 s (b * 128)) (length s) 0xffff_ffff_ffff_ffff) (p ∙ ap (λ (b : ℕ). absorbed b h₀ s) d) e
 
 -- the parameter block's words: 1 to 5 are 0, and the last two are the personalisation's
 pub initial-by : (p : List ℕ) (d x y : ℕ) → x ≡ le (part p 0 8) → y ≡ le (part p 8 8)
@@ -111,16 +111,16 @@ unfolding initial params iv le
 initial-by p d x y e f = rw (e, f)
 
 -- the words as bytes
-words-append : (xs ys : List ℕ) → wordsBytes (xs ++ ys) ≡ wordsBytes xs ++ wordsBytes ys
-unfolding wordsBytes
+words-append : (xs ys : List ℕ) → numbers (xs ++ ys) ≡ numbers xs ++ numbers ys
+unfolding numbers
 words-append [] ys = refl
-words-append (x ∷ xs) ys = ap (λ (l : List ℕ). leBytes 8 x ++ l) (words-append xs ys) ∙ sym (append-assoc (leBytes 8 x) (wordsBytes xs) (wordsBytes ys))
+words-append (x ∷ xs) ys = ap (λ (l : List ℕ). leBytes 8 x ++ l) (words-append xs ys) ∙ sym (append-assoc (leBytes 8 x) (numbers xs) (numbers ys))
 
-word-bytes : (x : ℕ) → wordsBytes (x ∷ []) ≡ leBytes 8 x
-unfolding wordsBytes
+word-bytes : (x : ℕ) → numbers (x ∷ []) ≡ leBytes 8 x
+unfolding numbers
 word-bytes x = append-nil (leBytes 8 x)
 
-words-suc : (h : List ℕ) (i : ℕ) → i < length h → wordsBytes (take (i + 1) h) ≡ wordsBytes (take i h) ++ leBytes 8 (getD h i 0)
+words-suc : (h : List ℕ) (i : ℕ) → i < length h → numbers (take (i + 1) h) ≡ numbers (take i h) ++ leBytes 8 (getD h i 0)
 words-suc h i l = rw (add-one, take-suc h i 0 l, words-append, word-bytes)
 
 take-sets : (l vs : List ℕ) (i k : ℕ) → k ≡ i + length vs → k ≤ length l → take k (sets l i vs) ≡ take i l ++ vs
@@ -132,26 +132,26 @@ take-sets l vs i k e h =
 pub bytes-length : (out w : List ℕ) (i x n : ℕ) → w ≡ sets out i (leBytes 8 x) → length out ≡ n → length w ≡ n
 bytes-length out w i x n e f = ap length e ∙ length-sets out i (leBytes 8 x) ∙ f
 
-pub bytes-more : (h out w : List ℕ) (i : ℕ) → i < length h → 8 * i + 8 ≤ length out → take (8 * i) out ≡ wordsBytes (take i h) → w ≡ sets out (8 * i) (leBytes 8 (getD h i 0))
-    → take (8 * (i + 1)) w ≡ wordsBytes (take (i + 1) h)
+pub bytes-more : (h out w : List ℕ) (i : ℕ) → i < length h → 8 * i + 8 ≤ length out → take (8 * i) out ≡ numbers (take i h) → w ≡ sets out (8 * i) (leBytes 8 (getD h i 0))
+    → take (8 * (i + 1)) w ≡ numbers (take (i + 1) h)
 bytes-more h out w i l k e f =
     let b = leBytes 8 (getD h i 0) in
     let n : 8 * (i + 1) ≡ 8 * i + length b = omega (arith, leBytes-length 8 (getD h i 0)) in
     ap (take (8 * (i + 1))) f ∙ take-sets out b (8 * i) (8 * (i + 1)) n (omega arith)
     ∙ ap (λ (a : List ℕ). a ++ b) e ∙ sym (words-suc h i l)
 
-pub bytes-all : (h out : List ℕ) (n i : ℕ) → i ≤ n → n ≤ i → length out ≡ 8 * n → take (8 * i) out ≡ wordsBytes (take i h) → out ≡ wordsBytes (take n h)
+pub bytes-all : (h out : List ℕ) (n i : ℕ) → i ≤ n → n ≤ i → length out ≡ 8 * n → take (8 * i) out ≡ numbers (take i h) → out ≡ numbers (take n h)
 bytes-all h out n i l k e f =
     let g : i ≡ n = omega arith in
-    sym (take-all (8 * i) out (omega arith)) ∙ f ∙ ap (λ (j : ℕ). wordsBytes (take j h)) g
+    sym (take-all (8 * i) out (omega arith)) ∙ f ∙ ap (λ (j : ℕ). numbers (take j h)) g
 
-bytes-front : (h : List ℕ) (n : ℕ) → take (8 * n) (wordsBytes h) ≡ wordsBytes (take n h)
-unfolding wordsBytes
+bytes-front : (h : List ℕ) (n : ℕ) → take (8 * n) (numbers h) ≡ numbers (take n h)
+unfolding numbers
 bytes-front h zero = refl
 bytes-front [] (suc n) = take-nil (8 * suc n)
 bytes-front (x ∷ xs) (suc n) =
     let e : 8 * suc n ≡ length (leBytes 8 x) + 8 * n = omega (arith, leBytes-length 8 x) in
-    rw e (take-append-add (leBytes 8 x) (wordsBytes xs) (8 * n) ∙ ap (λ (l : List ℕ). leBytes 8 x ++ l) (bytes-front xs n))
+    rw e (take-append-add (leBytes 8 x) (numbers xs) (8 * n) ∙ ap (λ (l : List ℕ). leBytes 8 x ++ l) (bytes-front xs n))
 
 -- every step keeps eight words
 folded-length : (n : ℕ) (h v : List ℕ) → length (folded n h v) ≡ length h
@@ -183,26 +183,26 @@ pub eight : (p s h₀ h : List ℕ) → h₀ ≡ initial 8 p → h ≡ hashed h�
 eight p s h₀ h e f = ap length (hashed-from p s h₀ h e f) ∙ hashed-length (initial 8 p) s ∙ initial-length p
 
 -- eight bytes for each word
-words-length : (l : List ℕ) → length (wordsBytes l) ≡ 8 * length l
-unfolding wordsBytes
+words-length : (l : List ℕ) → length (numbers l) ≡ 8 * length l
+unfolding numbers
 words-length [] = refl
-words-length (x ∷ l) = omega (arith, length-append (leBytes 8 x) (wordsBytes l), leBytes-length 8 x, words-length l)
+words-length (x ∷ l) = omega (arith, length-append (leBytes 8 x) (numbers l), leBytes-length 8 x, words-length l)
 
 -- a CKB hash has 32 bytes
 pub ckb-length : (s : List ℕ) → length (ckbHash s) ≡ 32
 unfolding ckbHash blake2b chain params
 ckb-length s =
     let h = hashed (initial 8 (params 32 ckbPersonal)) s in
-    length-take 32 (wordsBytes h) ∙ omega (arith, words-length h, eight (params 32 ckbPersonal) s _ h refl refl)
+    length-take 32 (numbers h) ∙ omega (arith, words-length h, eight (params 32 ckbPersonal) s _ h refl refl)
 
-pub chain-by : (p s h₀ h r : List ℕ) → h₀ ≡ initial 8 p → h ≡ hashed h₀ s → r ≡ wordsBytes (take 8 h) → r ≡ chain p s
+pub chain-by : (p s h₀ h r : List ℕ) → h₀ ≡ initial 8 p → h ≡ hashed h₀ s → r ≡ numbers (take 8 h) → r ≡ chain p s
 unfolding chain
 chain-by p s h₀ h r e f g =
     let n = eight p s h₀ h e f in
-    g ∙ ap wordsBytes (take-all 8 h (omega arith) ∙ hashed-from p s h₀ h e f)
+    g ∙ ap numbers (take-all 8 h (omega arith) ∙ hashed-from p s h₀ h e f)
 
-pub ckb-by : (p s h₀ h r : List ℕ) → p ≡ ckbPersonal → h₀ ≡ initial 8 (params 32 p) → h ≡ hashed h₀ s → r ≡ wordsBytes (take 4 h) → r ≡ ckbHash s
+pub ckb-by : (p s h₀ h r : List ℕ) → p ≡ ckbPersonal → h₀ ≡ initial 8 (params 32 p) → h ≡ hashed h₀ s → r ≡ numbers (take 4 h) → r ≡ ckbHash s
 unfolding ckbHash blake2b chain params
 ckb-by p s h₀ h r e f g k =
     let d = hashed-from (params 32 ckbPersonal) s h₀ h (f ∙ ap (λ (l : List ℕ). initial 8 (params 32 l)) e) g in
-    k ∙ sym (bytes-front h 4) ∙ ap (λ (l : List ℕ). take 32 (wordsBytes l)) d
+    k ∙ sym (bytes-front h 4) ∙ ap (λ (l : List ℕ). take 32 (numbers l)) d

@@ -4,17 +4,13 @@ use Prim.Native.Nat.{ℕ, zero, suc, _+_, _-_, _*_, _/_, _%_, _^_}
 use mathlib.Core.List.{List, [], _∷_, _++_}
 use lib.ListN.{length, getD, set, take, replicate}
 use lib.Bits.{bitXor}
-use Rattle.fiber_bytes.specs.Bytes.{part, le, leBytes}
+use Rattle.fiber_bytes.specs.Bytes.{part, le, numbers}
 use Rattle.fiber_bytes.specs.Words.{rotated}
 
--- 2.4: words are little-endian: the n words of s from a place on, a byte past the end being padding's 0; the bytes of words
+-- 2.4: words are little-endian, eight bytes each: the n words of s from a place on, a byte past the end being padding's 0
 unfoldable pub words : ℕ → List ℕ → ℕ → List ℕ
 words zero s at = []
 words (suc n) s at = words n s at ++ (le (part s (at + 8 * n) 8) ∷ [])
-
-unfoldable pub wordsBytes : List ℕ → List ℕ
-wordsBytes [] = []
-wordsBytes (x ∷ xs) = leBytes 8 x ++ wordsBytes xs
 
 -- 2.5: the parameter block: digest length, no key, fanout 1, depth 1; the RFC leaves the rest 0, and BLAKE2 keeps bytes 48 to 63 of it
 -- for a personalisation
@@ -78,9 +74,6 @@ rounds zero v m = v
 rounds (suc r) v m = round (rounds r v m) m (getD sigma (r % 10) [])
 
 -- the words that a block's compression starts from: t is the count of bytes so far, f is all ones at the last block and else 0
-abbrev pub ones : ℕ
-ones = 0xffff_ffff_ffff_ffff
-
 unfoldable pub start : List ℕ → ℕ → ℕ → List ℕ
 start h t f =
     getD h 0 0 ∷ getD h 1 0 ∷ getD h 2 0 ∷ getD h 3 0 ∷ getD h 4 0 ∷ getD h 5 0 ∷ getD h 6 0 ∷ getD h 7 0
@@ -109,11 +102,11 @@ absorbed (suc n) h s = compressed (absorbed n h s) (words 16 s (n * 128)) (n * 1
 unfoldable pub hashed : List ℕ → List ℕ → List ℕ
 hashed h s =
     let n = (length s - 1) / 128 in
-    compressed (absorbed n h s) (words 16 s (n * 128)) (length s) ones
+    compressed (absorbed n h s) (words 16 s (n * 128)) (length s) 0xffff_ffff_ffff_ffff
 
 -- the 64 bytes of h[] under a parameter block, and the digest: the first of them, as many as the block says
 unfoldable pub chain : List ℕ → List ℕ → List ℕ
-chain p s = wordsBytes (hashed (initial 8 p) s)
+chain p s = numbers (hashed (initial 8 p) s)
 
 unfoldable pub blake2b : List ℕ → List ℕ → List ℕ
 blake2b p s = take (getD p 0 0) (chain p s)

@@ -6,6 +6,7 @@ ghost use mathlib.Core.Path.{_≡_};
 ghost use mathlib.Core.List.{[]};
 ghost use Prim.Native.Nat.{_+_, _-_, _*_, _/_, _≤_, _<_, _^_};
 ghost use lib.ListN.{length, getD, take};
+ghost use Rattle.fiber_bytes.specs.Bytes.{numbers};
 ghost use Rattle.fiber_bytes.specs.Words.{rotated};
 ghost use Rattle.fiber_blake2b.specs.Blake2b as S;
 
@@ -293,7 +294,7 @@ fn absorb(h: &mut [u64; 8], s: &[u8])
 // The first n words as bytes.
 fn finish(h: &[u64; 8], n: usize, out: &mut [u8])
     requires { ⌜ (n ≤ 8) × (length (now h) ≡ 8) × (length (now out) ≡ 8 * n) ⌝ }
-    ensures { λ _. ⌜ now (out .exit) ≡ S.wordsBytes (take n (now (h .entry))) ⌝ }
+    ensures { λ _. ⌜ now (out .exit) ≡ numbers (take n (now (h .entry))) ⌝ }
 {
     for i in 0..n {
         put_le64(out, 8 * i, h[i]);

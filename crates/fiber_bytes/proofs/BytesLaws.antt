@@ -12,7 +12,7 @@ use lib.Dec.{leb}
 use borrow.Author.Tests.{leb-true, leb-false}
 use lib.ListN.{length, getD, set, take, drop, replicate, drop-of-length-le, length-take, length-drop, take-append-drop}
 use lib.Seq.{sets, length-sets, sets-eq, length-take-le, drop-cons, drop-drop, take-add, take-take, take-all, set-out}
-use Rattle.fiber_bytes.specs.Bytes.{part, le, leBytes}
+use Rattle.fiber_bytes.specs.Bytes.{part, le, leBytes, numbers}
 
 pub either : (a b : ℕ) → (a ≤ b) ⊎ (b < a)
 either a b = go (leb a b) refl
@@ -181,3 +181,23 @@ put-byte-end l at i m x e = ⊎-elim whole (λ h. sym (sets-out (leBytes (m - i)
     whole h =
         let g : m - i ≡ 0 = omega arith in
         rw g
+
+-- ---- numbers, eight bytes each
+
+-- one alone
+pub numbers-one : (x : ℕ) → numbers (x ∷ []) ≡ leBytes 8 x
+unfolding numbers
+numbers-one x = append-nil (leBytes 8 x)
+
+-- one number more is written, at its place
+pub numbers-more : (l ns : List ℕ) (at i place : ℕ) → i < length ns → place ≡ at + 8 * i
+    → sets (sets l place (leBytes 8 (getD ns i 0))) (at + 8 * (i + 1)) (numbers (drop (i + 1) ns)) ≡ sets l (at + 8 * i) (numbers (drop i ns))
+unfolding numbers
+numbers-more l ns at i place h f =
+    let e : at + 8 * (i + 1) ≡ at + 8 * i + length (leBytes 8 (getD ns i 0)) = omega (arith, leBytes-length 8 (getD ns i 0)) in
+    rw (f, drop-cons ns i 0 h, e, add-one) (sym (sets-append (leBytes 8 (getD ns i 0)) (numbers (drop (suc i) ns)) l (at + 8 * i)))
+
+-- all are
+pub numbers-end : (l ns : List ℕ) (at i : ℕ) → length ns ≤ i → sets l (at + 8 * i) (numbers (drop i ns)) ≡ l
+unfolding numbers
+numbers-end l ns at i h = rw (drop-of-length-le ns h)

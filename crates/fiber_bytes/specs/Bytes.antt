@@ -18,7 +18,12 @@ unfoldable pub leBytes : ℕ → ℕ → List ℕ
 leBytes zero x = []
 leBytes (suc n) x = x % 256 ∷ leBytes n (x / 256)
 
--- the same, highest first (FIPS 180-4, 3.1)
+-- numbers one behind the other, eight bytes each
+unfoldable pub numbers : List ℕ → List ℕ
+numbers [] = []
+numbers (x ∷ xs) = leBytes 8 x ++ numbers xs
+
+-- highest first (FIPS 180-4, 3.1)
 unfoldable pub be : List ℕ → ℕ
 be [] = 0
 be (b ∷ bs) = b * 256 ^ length bs + be bs

@@ -1,7 +1,7 @@
 // Numbers held in bytes, parts of a slice, and copies. What every layout of the settlement core is read and written with.
 // For every crate. Uses nothing.
 ghost use mathlib.Core.Path.{_≡_};
-ghost use Prim.Native.Nat.{ℕ, min, _+_, _-_, _≤_, _<_, _^_};
+ghost use Prim.Native.Nat.{min, _+_, _-_, _≤_, _<_, _^_};
 ghost use lib.ListN.{length};
 ghost use lib.Seq.{sets};
 ghost use Rattle.fiber_bytes.specs.Bytes.{part, le, leBytes};

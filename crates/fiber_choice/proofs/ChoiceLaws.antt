@@ -8,7 +8,7 @@ use Rattle.fiber_since.specs.declared.epoch.Epoch.{Epoch}
 use Rattle.fiber_since.specs.declared.epoch.Scaled.the-variants as scaled·
 use Rattle.fiber_choice.specs.declared.kinds.ChoiceAnswer.the-variants as answer·
 use Rattle.fiber_choice.specs.Request.{Request, validRequest, delayOf}
-use Rattle.fiber_choice.specs.HandedOut.{Gives}
+use Rattle.fiber_types.specs.Records.{Gives}
 use Rattle.fiber_choice.specs.Settlements.{later, first}
 use Rattle.fiber_choice.specs.Choice.{afterDelay, choiceOf}
 

@@ -10,7 +10,7 @@ use mathlib.Core.List.{List, [], _∷_, _++_}
 use lib.Dec.{eqb}
 use lib.ListN.{length, getD, take, drop, drop-of-length-le, length-append}
 use lib.Seq.{drop-cons, drop-drop, drop-nil, take-at, drop-at, getD-take, getD-drop}
-use borrow.Author.Tests.{eq-eqb, ne-eqb, le-leb, lt-leb}
+use borrow.Author.Tests.{eq-eqb, ne-eqb, eqb-true, le-leb, lt-leb}
 use Rattle.fiber_bytes.specs.Bytes.{part}
 use Rattle.fiber_types.specs.declared.tlc.Amount.{Amount}
 use Rattle.fiber_witness.specs.Witness.{records}
@@ -276,3 +276,26 @@ pub tracked-count : (h : ℕ) (s : List ℕ) → length (entries (trackedLen h) 
 tracked-count h s =
     let z : trackedLen h ≡ 98 + h = omega arith in
     entries-length (trackedLen h) s ∙ ap (λ (m : ℕ). length s / m) z
+
+-- ---- lists that are the same are equal
+
+-- what a test of two lists, one element after the other, says yes to is equal
+alike : {A : Type 0} (one : A → A → Bool) (test : List A → List A → Bool)
+    → ((y : A) (b : List A) → test [] (y ∷ b) ≡ false) → ((x : A) (a : List A) → test (x ∷ a) [] ≡ false)
+    → ((x y : A) (a b : List A) → test (x ∷ a) (y ∷ b) ≡ (one x y && test a b))
+    → ((x y : A) → one x y ≡ true → x ≡ y)
+    → (a b : List A) → test a b ≡ true → a ≡ b
+alike one test f g h eq [] [] e = refl
+alike one test f g h eq [] (y ∷ b) e = absurd (false≢true (sym (f y b) ∙ e))
+alike one test f g h eq (x ∷ a) [] e = absurd (false≢true (sym (g x a) ∙ e))
+alike one test f g h eq (x ∷ a) (y ∷ b) e =
+    let s = and-eq-true-iff (one x y) (test a b) .0 (sym (h x y a b) ∙ e) in
+    rw (eq x y (s .0), alike one test f g h eq a b (s .1))
+
+same-equal : (a b : List ℕ) → same a b ≡ true → a ≡ b
+unfolding same
+same-equal = alike eqb same (λ y b. refl) (λ x a. refl) (λ x y a b. refl) (λ x y e. eqb-true x y e)
+
+pub lists-equal : (a b : List (List ℕ)) → sameLists a b ≡ true → a ≡ b
+unfolding sameLists
+lists-equal = alike same sameLists (λ y b. refl) (λ x a. refl) (λ x y a b. refl) same-equal

@@ -12,7 +12,9 @@ use lib.ListN.{length, getD, take, drop, set, replicate, drop-of-length-le, leng
 use lib.Seq.{sets, length-sets, drop-cons, take-take, take-all}
 use borrow.Author.Tests.{eq-eqb, ne-eqb, le-leb, lt-leb, leb-true}
 use Rattle.fiber_bytes.specs.Bytes.{part, le, leBytes}
+use Rattle.fiber_bytes.proofs.CaseLaws.{by-each}
 use Rattle.fiber_bytes.proofs.BytesLaws.{part-length, sets-append, sets-then, sets-fill, leBytes-length}
+use Rattle.fiber_types.specs.declared.answer.Written.{Written}
 use Rattle.fiber_types.specs.declared.answer.Written.the-variants as written·
 use Rattle.fiber_types.specs.declared.key.KeyAnswer.the-variants.{Refused}
 use Rattle.fiber_types.specs.declared.key.KeyHash.{KeyHash}
@@ -79,7 +81,7 @@ module _ (h : ℕ) (b : Bool) (t : List ℕ) (k : validHashLen h ≡ true) (n : 
         ∙ sym (tlc-written put H A B out kH nA nB (omega arith) _ refl .1)
         ∙ rw (ex, ez, eA, eB, eH ∙ first-hash)
 
-    -- the key pair is remote, local
+    -- the key hashes are remote, local
     pub first-remote : b ≡ true → out′ ≡ wroteTlc put H (M .bytes) (L .bytes) out .bytes → out′ ≡ sets out 0 (firstRecord h b t)
     first-remote e w = wrote (M .bytes) (L .bytes) (rw e remote-hash) (rw e local-hash) w
 
@@ -138,6 +140,10 @@ share-length key a =
       leBytes-length 8 (a .low),
       leBytes-length 8 (a .high),
     )
+
+-- one of two
+pub share-by-length : (b : Bool) (key : List ℕ) (a : Amount) (other : List ℕ) (a′ : Amount) → length (cond b (shareBytes key a) (shareBytes other a′)) ≡ 36
+share-by-length b key a other a′ = by-each (λ (s : List ℕ). length s ≡ 36) b _ _ (share-length key a) (share-length other a′)
 
 -- the three writes of a share fill the array
 pub share-puts : (key : List ℕ) (a : Amount) (K : KeyHash) (o₁ o₂ o₃ : List ℕ) → K ≡ keyHash key
@@ -348,8 +354,8 @@ unfolding wroteFirst
 wrote-length h b d out = go (validHashLen h && validData d) (leb (length (d .tlcs) / 124) 255)
   where
     go : (x y : Bool)
-        → length (cond {A = Outcome} x
-        (cond {A = Outcome} y (outcome true (firstState h b d) out) (record { answer = written·.Refused 12 0; bytes = out }))
+        → length (cond {A = Outcome Written} x
+        (cond {A = Outcome Written} y (outcome true (firstState h b d) out) (record { answer = written·.Refused 12 0; bytes = out }))
         (record { answer = written·.Refused 14 0; bytes = out }) .bytes)
         ≡ length out
     go true true = outcome-length true (firstState h b d) out
@@ -394,19 +400,11 @@ module _ (h : ℕ) (b : Bool) (d : SettlementData) (out : List ℕ) where
         -- two shares of 36 bytes
         remote-36 : length (firstRemote b d) ≡ 36
         unfolding firstRemote
-        remote-36 = go b
-          where
-            go : (t : Bool) → length (cond t (shareBytes (d .remoteKey) (d .remoteAmount)) (shareBytes (d .localKey) (d .localAmount))) ≡ 36
-            go true = share-length (d .remoteKey) (d .remoteAmount)
-            go false = share-length (d .localKey) (d .localAmount)
+        remote-36 = share-by-length b (d .remoteKey) (d .remoteAmount) (d .localKey) (d .localAmount)
 
         local-36 : length (firstLocal b d) ≡ 36
         unfolding firstLocal
-        local-36 = go b
-          where
-            go : (t : Bool) → length (cond t (shareBytes (d .localKey) (d .localAmount)) (shareBytes (d .remoteKey) (d .remoteAmount))) ≡ 36
-            go true = share-length (d .localKey) (d .localAmount)
-            go false = share-length (d .remoteKey) (d .remoteAmount)
+        local-36 = share-by-length b (d .localKey) (d .localAmount) (d .remoteKey) (d .remoteAmount)
 
         data-size : length (firstState h b d) ≡ 73 + length (d .tlcs) / 124 * recordLen h
         unfolding firstState
@@ -420,33 +418,22 @@ module _ (h : ℕ) (b : Bool) (d : SettlementData) (out : List ℕ) where
         unfolding wroteFirst
         data-short g = rw (k, w, le-leb (length (d .tlcs) / 124) 255 n) (outcome-short true (firstState h b d) out refl _ data-size g)
 
-        module _ (g : 73 + length (d .tlcs) / 124 * recordLen h ≤ length out) (o₁ o₂ o₃ L R : List ℕ)
-            (eL : L ≡ shareBytes (d .localKey) (d .localAmount)) (eR : R ≡ shareBytes (d .remoteKey) (d .remoteAmount))
-            (e₁ : o₁ ≡ sets (set out 0 (length (d .tlcs) / 124)) 1 (flat (firstRecords h b (entries settlementLen (d .tlcs))))) where
-          puts : (A B : List ℕ) → A ≡ firstRemote b d → B ≡ firstLocal b d
-              → o₂ ≡ sets o₁ (73 + length (d .tlcs) / 124 * recordLen h - 72) A → o₃ ≡ sets o₂ (73 + length (d .tlcs) / 124 * recordLen h - 36) B
-              → (written·.Bytes (73 + length (d .tlcs) / 124 * recordLen h) ≡ wroteFirst h b d out .answer) × (o₃ ≡ wroteFirst h b d out .bytes)
-          unfolding firstState wroteFirst
-          puts A B eA eB e₂ e₃ =
-              let rs = firstRecords h b (entries settlementLen (d .tlcs)) in
-              let m = length (d .tlcs) / 124 * recordLen h in
-              let c : length (d .tlcs) / 124 ≡ length rs = sym (firsts-count h b (entries settlementLen (d .tlcs)) ∙ entries-length settlementLen (d .tlcs)) in
-              let x : 73 + m - 72 ≡ 1 + length (flat rs) = omega (arith, data-flat) in
-              let y : 73 + m - 36 ≡ 73 + m - 72 + 36 = omega arith in
-              let s : o₃ ≡ sets out 0 (firstState h b d) =
-              state-puts rs (firstRemote b d) (firstLocal b d) remote-36 local-36 (length (d .tlcs) / 124) (73 + m - 72) out o₁ o₂ o₃ c x e₁
-              (e₂ ∙ ap (sets o₁ (73 + m - 72)) eA)
-              (e₃ ∙ ap (sets o₂ (73 + m - 36)) eB ∙ ap (λ (j : ℕ). sets o₂ j (firstLocal b d)) y) in
-              rw (k, w, le-leb (length (d .tlcs) / 124) 255 n) (outcome-whole true (firstState h b d) out refl _ data-size g o₃ s)
-
-          -- the shares are remote, local
-          pub data-remote : b ≡ true → o₂ ≡ sets o₁ (73 + length (d .tlcs) / 124 * recordLen h - 72) R → o₃ ≡ sets o₂ (73 + length (d .tlcs) / 124 * recordLen h - 36) L
-              → (written·.Bytes (73 + length (d .tlcs) / 124 * recordLen h) ≡ wroteFirst h b d out .answer) × (o₃ ≡ wroteFirst h b d out .bytes)
-          unfolding firstRemote firstLocal
-          data-remote e = puts R L (rw e eR) (rw e eL)
-
-          -- or swapped
-          pub data-local : b ≡ false → o₂ ≡ sets o₁ (73 + length (d .tlcs) / 124 * recordLen h - 72) L → o₃ ≡ sets o₂ (73 + length (d .tlcs) / 124 * recordLen h - 36) R
-              → (written·.Bytes (73 + length (d .tlcs) / 124 * recordLen h) ≡ wroteFirst h b d out .answer) × (o₃ ≡ wroteFirst h b d out .bytes)
-          unfolding firstRemote firstLocal
-          data-local e = puts L R (rw e eL) (rw e eR)
+        -- count, records and both shares, one behind the other
+        pub data-puts : 73 + length (d .tlcs) / 124 * recordLen h ≤ length out → (o₁ o₂ o₃ A B : List ℕ)
+            → A ≡ cond b (shareBytes (d .remoteKey) (d .remoteAmount)) (shareBytes (d .localKey) (d .localAmount))
+            → B ≡ cond b (shareBytes (d .localKey) (d .localAmount)) (shareBytes (d .remoteKey) (d .remoteAmount))
+            → o₁ ≡ sets (set out 0 (length (d .tlcs) / 124)) 1 (flat (firstRecords h b (entries settlementLen (d .tlcs))))
+            → o₂ ≡ sets o₁ (73 + length (d .tlcs) / 124 * recordLen h - 72) A → o₃ ≡ sets o₂ (73 + length (d .tlcs) / 124 * recordLen h - 36) B
+            → (written·.Bytes (73 + length (d .tlcs) / 124 * recordLen h) ≡ wroteFirst h b d out .answer) × (o₃ ≡ wroteFirst h b d out .bytes)
+        unfolding firstRemote firstLocal firstState wroteFirst
+        data-puts g o₁ o₂ o₃ A B eA eB e₁ e₂ e₃ =
+            let rs = firstRecords h b (entries settlementLen (d .tlcs)) in
+            let m = length (d .tlcs) / 124 * recordLen h in
+            let c : length (d .tlcs) / 124 ≡ length rs = sym (firsts-count h b (entries settlementLen (d .tlcs)) ∙ entries-length settlementLen (d .tlcs)) in
+            let x : 73 + m - 72 ≡ 1 + length (flat rs) = omega (arith, data-flat) in
+            let y : 73 + m - 36 ≡ 73 + m - 72 + 36 = omega arith in
+            let s : o₃ ≡ sets out 0 (firstState h b d) =
+            state-puts rs (firstRemote b d) (firstLocal b d) remote-36 local-36 (length (d .tlcs) / 124) (73 + m - 72) out o₁ o₂ o₃ c x e₁
+            (e₂ ∙ ap (sets o₁ (73 + m - 72)) eA)
+            (e₃ ∙ ap (sets o₂ (73 + m - 36)) eB ∙ ap (λ (j : ℕ). sets o₂ j (firstLocal b d)) y) in
+            rw (k, w, le-leb (length (d .tlcs) / 124) 255 n) (outcome-whole true (firstState h b d) out refl _ data-size g o₃ s)

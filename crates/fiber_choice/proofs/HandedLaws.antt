@@ -1,24 +1,26 @@
 -- Laws of `specs/inner/Plan.antt`, and of `specs/HandedOut.antt`: the records of a tracked list, and runs of stores.
 -- Assumes nothing.
 use Prim.Native.Nat.{ℕ, zero, suc, _+_, _-_, _*_, _/_, _≤_, _<_}
-use native.Mathlib.Nat.{add-zero, zero-mul, suc-mul, mul-le-mul-right, div-mul-le-self}
-use native.Mathlib.Numerals.{add-one}
+use native.Mathlib.Nat.{add-zero, suc-mul, mul-le-mul-right, div-mul-le-self}
 use native.Mathlib.Omega.{arith}
 use mathlib.Core.Path.{_≡_, refl, sym, ap, subst, _∙_}
 use mathlib.Core.Bool.{Bool, true, false, cond}
 use mathlib.Core.List.{List, [], _∷_, _++_, append-assoc}
 use mathlib.Core.Logic.{_⊎_, inl, inr, ⊎-elim}
 use lib.Dec.{eqb}
-use lib.ListN.{length, getD, take, drop, set, replicate, drop-of-length-le, length-take, length-drop, length-append}
+use lib.ListN.{length, getD, take, drop, set, replicate, length-take, length-drop, length-append}
 use lib.Seq.{sets, length-sets, sets-eq, take-all, take-at, drop-at, take-set-le, drop-set-lt, length-take-le, drop-drop, getD-drop}
-use borrow.Author.Tests.{eq-eqb, ne-eqb, le-leb, lt-leb, eqb-true, eqb-false, lt-ltb}
+use borrow.Author.Tests.{ne-eqb, le-leb, lt-leb, eqb-true, eqb-false, lt-ltb}
 use Rattle.fiber_bytes.specs.Bytes.{part}
 use Rattle.fiber_bytes.proofs.BytesLaws.{part-length, sets-append, part-part, part-behind}
 use Rattle.fiber_types.specs.declared.tlc.Amount.{Amount}
+use Rattle.fiber_types.specs.declared.tlc.Tlc.{Tlc}
+use Rattle.fiber_types.specs.declared.tlc.TlcRead.{TlcRead}
+use Rattle.fiber_types.specs.declared.tlc.TlcRead.the-variants as tlc·
 use Rattle.fiber_types.specs.declared.answer.Written.the-variants as written·
 use Rattle.fiber_types.specs.declared.unlock.Unlock.{Unlock}
-use Rattle.fiber_types.specs.Records.{amountAt, witnessLen, unlockBytes, wroteUnlock}
-use Rattle.fiber_types.proofs.RecordsLaws.{unlock-written, unlockBytes-length, unlockBytes-byte, unlockBytes-flag, at-least, outcome-room, amount-part}
+use Rattle.fiber_types.specs.Records.{amountAt, validHashLen, tlcAt, readTlc, witnessLen, unlockBytes, wroteUnlock}
+use Rattle.fiber_types.proofs.RecordsLaws.{tlc-whole, tlc-amount, unlock-written, unlockBytes-length, unlockBytes-byte, unlockBytes-flag, at-least, outcome-room, amount-part}
 use Rattle.fiber_blake2b.specs.Blake2b.{ckbHash}
 use Rattle.fiber_blake2b.proofs.Blake2bLaws.{ckb-length}
 use Rattle.fiber_choice.specs.declared.kinds.Side.the-variants as side·
@@ -27,19 +29,19 @@ use Rattle.fiber_choice.specs.declared.kinds.Way.the-variants as way·
 use Rattle.fiber_choice.specs.declared.kinds.Choice.{Choice}
 use Rattle.fiber_choice.specs.declared.kinds.Choice.the-variants as choice·
 use Rattle.fiber_choice.specs.declared.kinds.Plan.{Plan}
-use Rattle.fiber_witness.specs.Witness.{recordLen, records, flat, stateBytes, member, sharePlace, unlockLen, places, unlessCut, readWitness}
-use Rattle.fiber_witness.specs.Update.{keep, shareLeft, none, takeUnlocks, updated}
+use Rattle.fiber_witness.specs.Witness.{recordLen, records, flat, stateBytes, member, unlockLen, places, unlessCut, readWitness}
+use Rattle.fiber_witness.specs.Update.{keep, shareLeft, none, fine, takeUnlocks, updated}
 use Rattle.fiber_witness.specs.inner.Marks.{Marks, noMarks}
-use Rattle.fiber_witness.specs.inner.Strided.{strided, unmarked}
+use Rattle.fiber_witness.specs.inner.Strided.{sharePlace, strided, unmarked}
 use Rattle.fiber_choice.specs.Entries.{entries, trackedLen, trackedRecords, pairLen, pairPreimage}
 use Rattle.fiber_choice.specs.declared.kinds.ChoiceAnswer.the-variants as answer·
 use Rattle.fiber_choice.specs.HandedOut.{Picked, choiceByte, newArgs, unlockOf, takes, stateAfter, choiceAmount, recordSize, handedOut}
-use Rattle.fiber_choice.specs.inner.Plan.{planOf, planAfter, planUnlock, joined, Below, Within, PairBelow, Paired}
-use Rattle.fiber_witness.proofs.WitnessLaws.{Even, even-none, even-more, flat-even, state-size, places-nil, places-cons, member-none, cut-none, cut-passed}
-use Rattle.fiber_witness.proofs.UpdateLaws.{marks-none, left-length, share-kept, sets-part, rest-room, unlocks-none, unlocks-more, keep-cons, updated-fine}
+use Rattle.fiber_choice.specs.inner.Plan.{planOf, planAfter, planUnlock, joined, Below, Within}
+use Rattle.fiber_choice.specs.Promises.{PairIn}
+use Rattle.fiber_witness.proofs.WitnessLaws.{Even, even-none, even-more, even-at, flat-even, state-size, places-nil, places-cons, member-none, cut-none, cut-passed}
+use Rattle.fiber_witness.proofs.UpdateLaws.{marks-none, left-length, share-kept, sets-part, rest-room, unlocks-none, unlocks-more, updated-fine}
 use Rattle.fiber_witness.proofs.StridedLaws.{strided-none, strided-more, unmarked-keep}
 use Rattle.fiber_witness.specs.declared.witness.WitnessRead.the-variants as read·
-use Rattle.fiber_witness.specs.declared.unlocks.UnlocksAnswer.the-variants as unlocks·
 use Rattle.fiber_witness.proofs.StateLaws.{Sound, read-sound, state-left}
 use Rattle.fiber_choice.proofs.EntriesLaws.{tracked-length, tracked-at, entries-length, entry-at, entry-room}
 
@@ -212,12 +214,24 @@ module _ (h : ℕ) (s : List ℕ) (place : ℕ) (way : Way) (c : Choice) (b : Be
   pub below-room : place * (98 + h) + (98 + h) ≤ length s
   below-room = entry-room (98 + h) s place below-place
 
-module _ (h : ℕ) (s : List ℕ) (i : ℕ) (g : i < length s / (98 + h)) where
-  -- its record begins with the type, and then the amount
-  pub place-amount : amountAt s (i * (98 + h) + 34) ≡ amountAt (getD (tlcs h s) i []) 1
-  place-amount =
-      let a : i * (98 + h) + 33 + 1 ≡ i * (98 + h) + 34 = omega arith in
-      rw (tlc-at h s i g, amount-part s (i * (98 + h) + 33) (recordLen h) 1 (omega arith), a)
+module _ (h : ℕ) (s : List ℕ) (i : ℕ) (k : validHashLen h ≡ true) (g : i < length s / (98 + h)) (x : TlcRead) (f : x ≡ readTlc h s (i * (98 + h) + 33)) where
+  -- its record is whole
+  place-whole : x ≡ tlc·.Record (tlcAt h s (i * (98 + h) + 33))
+  place-whole = f ∙ tlc-whole h s (i * (98 + h) + 33) k (omega (arith, entry-room (98 + h) s i g))
+
+  -- what is read is its amount
+  pub place-amount : (t : Tlc) → x ≡ tlc·.Record t → t .amount ≡ amountAt (getD (tlcs h s) i []) 1
+  place-amount t e =
+      let w = place-whole in
+      let m : t ≡ tlcAt h s (i * (98 + h) + 33) = cc in
+      rw (m, tlc-amount h s (i * (98 + h) + 33), tlc-at h s i g) (sym (amount-part s (i * (98 + h) + 33) (recordLen h) 1 (omega arith)))
+
+  -- so it is never turned down
+  pub place-never : {A : Type 0} (number place : ℕ) → x ≡ tlc·.Refused number place → A
+  place-never number place e =
+      let w = place-whole in
+      let z : _≡_ {A = ℕ} 0 1 = cc in
+      absurd (omega arith)
 
 -- with a flag the first of two holds
 pub flagged : {A : Type 0} {b : Bool} → A ⊎ (b ≡ false) → b ≡ true → A
@@ -488,7 +502,7 @@ unfolding Within
 within-tlcs n m c w = w .0
 
 -- its pair is among m
-pub within-pairs : (n m : ℕ) (c : Choice) → Within n m c → PairBelow m c
+pub within-pairs : (n m : ℕ) (c : Choice) → Within n m c → PairIn m c
 unfolding Within
 within-pairs n m c w = w .1
 
@@ -506,9 +520,9 @@ plan-byte n (choice·.Tlc place way·.Timeout) f b = omega arith
 plan-byte n (choice·.Tlc place (way·.Preimage pair)) f b = omega arith
 
 -- its pair is whole, where it counts
-pub plan-pair : (n : ℕ) (preimages : List ℕ) (c : Choice) → PairBelow (length (entries pairLen preimages)) c
+pub plan-pair : (n : ℕ) (preimages : List ℕ) (c : Choice) → PairIn (length (entries pairLen preimages)) c
     → (64 * (planOf n c .pair) + 64 ≤ length preimages) ⊎ (planOf n c .flag ≡ false)
-unfolding planOf PairBelow Paired
+unfolding planOf
 plan-pair n preimages (choice·.Share side·.Remote) b = inr refl
 plan-pair n preimages (choice·.Share side·.Local) b = inr refl
 plan-pair n preimages (choice·.Tlc place way·.Timeout) b = inr refl
@@ -544,7 +558,7 @@ plan-after n rs remote local (choice·.Tlc place (way·.Preimage pair)) e = refl
 
 module _ (h : ℕ) (args s preimages out : List ℕ) (q : Picked) (p : Plan) (e : p ≡ planOf (length s / (98 + h)) (q .choice))
     (a : 36 ≤ length args) (d : length (q .remote) ≡ 36) (f : length (q .local) ≡ 36)
-    (b : PairBelow (length (entries pairLen preimages)) (q .choice)) where
+    (b : PairIn (length (entries pairLen preimages)) (q .choice)) where
   abbrev es : List (List ℕ)
   es = entries (trackedLen h) s
 
@@ -598,9 +612,9 @@ module _ (h : ℕ) (args s preimages out : List ℕ) (q : Picked) (p : Plan) (e 
           amount = m;
           key = q .key;
           delay = q .delay;
-          unlock = u;
-          state = 73 + length s / (98 + h) * recordLen h;
-          args = k;
+          «unlock_len» = u;
+          «state_len» = 73 + length s / (98 + h) * recordLen h;
+          «args_len» = k;
           place = q .place;
           len = l;
         })
@@ -656,26 +670,20 @@ unlock-of u preimage e = record {
     go true e = omega arith
     go false e = omega arith
 
--- one of records of k bytes
-pub even-at : {k : ℕ} {rs : List (List ℕ)} → Even k rs → (i : ℕ) → i < length rs → length (getD rs i []) ≡ k
-even-at even-none i g = absurd (omega arith)
-even-at (even-more e t) zero g = e
-even-at (even-more e t) (suc i) g = even-at t i (omega arith)
-
-pub unlock-whole : (ps : List (List ℕ)) (c : Choice) → Even pairLen ps → PairBelow (length ps) c → Whole (choiceByte c) (unlockOf ps c)
-unfolding unlockOf choiceByte PairBelow Paired
+pub unlock-whole : (ps : List (List ℕ)) (c : Choice) → Even pairLen ps → PairIn (length ps) c → Whole (choiceByte c) (unlockOf ps c)
+unfolding unlockOf choiceByte
 unlock-whole ps (choice·.Share side) a b = unlock-of (record { byte = choiceByte (choice·.Share side); flag = false }) [] refl
 unlock-whole ps (choice·.Tlc place way·.Timeout) a b = unlock-of (record { byte = place; flag = false }) [] refl
 unlock-whole ps (choice·.Tlc place (way·.Preimage pair)) a b =
     unlock-of (record { byte = place; flag = true }) (pairPreimage (getD ps pair [])) (part-length (getD ps pair []) 32 32 (omega (arith, even-at a pair b)))
 
 -- one unlock of a choice takes what the choice takes
-unlocks-choice : (n : ℕ) (w : List ℕ) (at : ℕ) (c : Choice) → n ≤ 254 → Below n c → getD w at 0 ≡ choiceByte c
-    → takeUnlocks n w none (at ∷ []) ≡ record { answer = unlocks·.Fine; taken = takes c }
+unlocks-choice : (n share : ℕ) (w : List ℕ) (at : ℕ) (c : Choice) → n ≤ 254 → Below n c → getD w at 0 ≡ choiceByte c
+    → takeUnlocks n share w none (at ∷ []) ≡ fine n share (takes c)
 unfolding choiceByte takes Below
-unlocks-choice n w at (choice·.Share side·.Local) g b e = rw (unlocks-more, e, unlocks-none)
-unlocks-choice n w at (choice·.Share side·.Remote) g b e = rw (unlocks-more, e, unlocks-none)
-unlocks-choice n w at (choice·.Tlc place way) g b e =
+unlocks-choice n share w at (choice·.Share side·.Local) g b e = rw (unlocks-more, e, unlocks-none)
+unlocks-choice n share w at (choice·.Share side·.Remote) g b e = rw (unlocks-more, e, unlocks-none)
+unlocks-choice n share w at (choice·.Tlc place way) g b e =
     simp (unlocks-more, unlocks-none, e, member-none, ne-eqb place 255 (λ z. omega arith), ne-eqb place 254 (λ z. omega arith), lt-ltb place n b)
 
 -- The update takes an unlock that is made of a choice, over the state that it was made for, whatever the count byte in front: it answers
@@ -721,10 +729,10 @@ module _ {h : ℕ} {tlcs : List (List ℕ)} {remote local : List ℕ} (ok : Soun
       ∙ cut-none w (read·.Refused 4) _
 
   -- all unlocks are taken
-  w-unlocks : takeUnlocks (length tlcs) w none (places w start) ≡ record { answer = unlocks·.Fine; taken = takes c }
+  w-unlocks : takeUnlocks (length tlcs) (sharePlace h (length tlcs)) w none (places w start) ≡ fine (length tlcs) (sharePlace h (length tlcs)) (takes c)
   w-unlocks =
-      ap (takeUnlocks (length tlcs) w none) w-places
-      ∙ unlocks-choice (length tlcs) w start c few (within-tlcs (length tlcs) (length ps) c b) (ap (λ (i : ℕ). getD w i 0) (sym (add-zero start)) ∙ w-byte 0 ∙ u-whole .first)
+      ap (takeUnlocks (length tlcs) (sharePlace h (length tlcs)) w none) w-places
+      ∙ unlocks-choice (length tlcs) (sharePlace h (length tlcs)) w start c few (within-tlcs (length tlcs) (length ps) c b) (ap (λ (i : ℕ). getD w i 0) (sym (add-zero start)) ∙ w-byte 0 ∙ u-whole .first)
 
   pub unlock-accepted : (out : List ℕ) → length (stateAfter tlcs remote local (takes c)) ≤ length out
       → updated h w out
@@ -734,5 +742,5 @@ module _ {h : ℕ} {tlcs : List (List ℕ)} {remote local : List ℕ} (ok : Soun
       }
   unfolding stateAfter
   unlock-accepted out g =
-      updated-fine h w out (length tlcs) 1 (sharePlace h (length tlcs)) start w-read (rw w-unlocks)
-      ∙ rw (w-unlocks, state-left ok count u (takes c)) (outcome-room (stateAfter tlcs remote local (takes c)) out g)
+      updated-fine h w out (length tlcs) 1 (sharePlace h (length tlcs)) start w-read (takes c) w-unlocks
+      ∙ rw (state-left ok count u (takes c)) (outcome-room (stateAfter tlcs remote local (takes c)) out g)

@@ -28,7 +28,7 @@ use Rattle.fiber_witness.specs.Update.{Taken, shareLeft, standing, stateLeft, U
 use Rattle.fiber_witness.proofs.WitnessLaws.{Even, even-records}
 use Rattle.fiber_witness.proofs.StateLaws.{Sound}
 use Rattle.fiber_witness.proofs.UnlocksLaws.{unlocks-one}
-use Rattle.fiber_witness.proofs.UpdateLaws.{left-length}
+use Rattle.fiber_witness.proofs.UpdateLaws.{left-length, unlocked-shares}
 use Rattle.fiber_choice.specs.declared.kinds.Side.the-variants as side·
 use Rattle.fiber_choice.specs.declared.kinds.Way.{Way}
 use Rattle.fiber_choice.specs.declared.kinds.Way.the-variants as way·
@@ -49,19 +49,20 @@ use Rattle.fiber_choice.specs.declared.kinds.ChoiceAnswer.{ChoiceAnswer}
 use Rattle.fiber_choice.specs.declared.kinds.ChoiceAnswer.the-variants as answer·
 use Rattle.fiber_choice.specs.Entries.{same, entries, trackedLen, trackedRecords, pairLen}
 use Rattle.fiber_choice.specs.Request.{Request, settlementTlcs, trackedTlcs, pairs, validRequest, delayOf}
-use Rattle.fiber_choice.specs.FirstRecords.{firstRecords, shareBytes, firstRemote, firstLocal, firstState}
+use Rattle.fiber_choice.specs.FirstRecords.{firstRecords, firstRemote, firstLocal, firstState}
 use Rattle.fiber_choice.specs.Walk.{ourShare, Verdict, passed, timeout, ready, falls, stepOf, onward, walk, orShare}
 use Rattle.fiber_choice.specs.Verdicts.{duesBy, verdicts, mayShare, walked}
-use Rattle.fiber_choice.specs.HandedOut.{Picked, choiceByte, unlockOf, takes, stateAfter, newArgs, choiceAmount, recordSize, ChoiceOutcome, handedOut}
+use Rattle.fiber_types.specs.Records.{Outcome}
+use Rattle.fiber_choice.specs.HandedOut.{Picked, choiceByte, unlockOf, takes, stateAfter, newArgs, choiceAmount, recordSize, handedOut}
 use Rattle.fiber_choice.specs.Settlements.{walkedBy, handStep, ifReady, laterReady, laterChoice, unsettled, laterPlace, laterState, laterOf, later, firstDelay, firstPlace, firstThirds, firstReady, first}
 use Rattle.fiber_choice.specs.Choice.{afterDelay, choiceOf, recordPart, recordOf}
-use Rattle.fiber_choice.specs.inner.Plan.{Within, Below, PairBelow, Paired}
-use Rattle.fiber_choice.specs.Promises.{Decides, NeverAbove253, tlcsLeft, tlcsBefore, ChosenStands, KeyIn, PairIn, InTheirLists, Accepted, HandedAccepted, StateOfWitness, StateOfData, LaterTimeStep, Before, Onward, waits, stays, sooner, LaterTimeWalk, atTime, LaterTimeChoice}
-use Rattle.fiber_choice.proofs.EntriesLaws.{tracked-length}
+use Rattle.fiber_choice.specs.inner.Plan.{Within, Below}
+use Rattle.fiber_choice.specs.Promises.{Decides, tlcsLeft, tlcsBefore, KeyIn, PairIn, Before, Onward, waits, stays, sooner, atTime, Promised, Promises}
+use Rattle.fiber_choice.proofs.EntriesLaws.{tracked-length, lists-equal}
 use Rattle.fiber_choice.proofs.HandedLaws.{tracked-size, tlcs-length, tlc-at, each-tracked, after-small, unlock-least, new-lengths, unlock-whole, unlock-accepted}
-use Rattle.fiber_choice.proofs.FirstRecordsLaws.{share-length}
-use Rattle.fiber_choice.proofs.WalkLaws.{KeyBelow, StepWithin}
-use Rattle.fiber_choice.proofs.SettlementsLaws.{lists-equal, later-ready, choice-within, first-ready, first-built, first-within, standing-at, unlocked-shares}
+use Rattle.fiber_choice.proofs.FirstRecordsLaws.{share-by-length}
+use Rattle.fiber_choice.proofs.WalkLaws.{StepWithin}
+use Rattle.fiber_choice.proofs.SettlementsLaws.{later-ready, choice-within, first-ready, first-built, first-within, standing-at}
 
 -- ---- a later time, one step
 
@@ -99,7 +100,9 @@ module _ (time time′ : ℕ) (t : time ≤ time′) where
       by-holds (λ x y. p′ ≤ p → cond y (p′ - 1) p′ ≤ cond x (p - 1) p) (ltb ms time) (ltb ms time′) (expired ms)
       (λ g. omega arith) (λ g. omega arith) (λ g. g)
 
-pub later-time-step : LaterTimeStep
+-- A TLC that its step chooses is chosen by it at every later time as well, in the same way and with the same key, however many are pending.
+pub later-time-step : (time time′ place p p′ : ℕ) (v : Verdict) (choice : Choice) (key : Key)
+    → time ≤ time′ → stepOf time place p v ≡ step·.Chosen choice key → stepOf time′ place p′ v ≡ step·.Chosen choice key
 later-time-step time time′ place p p′ v choice key t e = subst (λ (s : Step). Steps place p p′ s (stepOf time′ place p′ v)) e (step-later time time′ t place p p′ v)
 
 -- ---- the walk
@@ -151,7 +154,9 @@ module _ (forRemote may : Bool) where
       go (step·.Pending l) (step·.Chosen choice key) s r = rw s (sooner-than place key (rest time (place + 1) vs l) (rest-behind time place vs (place + 1) l (omega arith)))
       go (step·.Chosen choice key) y s r = rw s stays
 
-pub later-time-walk : LaterTimeWalk
+-- A later time never turns a choice of the walk into a wait, in either settlement; in a first one the same parts of the delay are due.
+pub later-time-walk : (h : ℕ) (forRemote : Bool) (time time′ : ℕ) (tlcs ps : List (List ℕ)) (stage : Stage) (ts : List (List ℕ))
+    → time ≤ time′ → Onward (walked h forRemote time tlcs ps stage ts) (walked h forRemote time′ tlcs ps stage ts)
 unfolding walked
 later-time-walk h forRemote time time′ tlcs ps stage ts t =
     rest-later forRemote (mayShare stage) time time′ t (verdicts h forRemote tlcs ps stage 0 ts) 0 (length ts) (length ts) (omega arith)
@@ -295,10 +300,6 @@ module _ (q : Request) (w : List ℕ) (v : validRequest q ≡ true) (full : Epoc
       (rw (tracked-size (q .h)) at
       (sym (tlc-at (q .h) (q .tracked) i (omega (arith, tlcs-length (q .h) (q .tracked), ap length built-tracked)))))
 
-  -- one of two shares of 36 bytes
-  one-share : (key key′ : List ℕ) (a a′ : Amount) → length (cond (q .forRemote) (shareBytes key a) (shareBytes key′ a′)) ≡ 36
-  one-share key key′ a a′ = by-each (λ (s : List ℕ). length s ≡ 36) (q .forRemote) _ _ (share-length key a) (share-length key′ a′)
-
   first-begun : Begun q false w
   unfolding choiceOf afterDelay first firstThirds firstReady ifReady firstRemote firstLocal firstState
   first-begun =
@@ -315,8 +316,8 @@ module _ (q : Request) (w : List ℕ) (v : validRequest q ≡ true) (full : Epoc
         hash = valid-hash q v;
         few = built-few;
         tlcs = built-tracked;
-        remotes = one-share (d .remoteKey) (d .localKey) (d .remoteAmount) (d .localAmount);
-        locals = one-share (d .localKey) (d .remoteKey) (d .localAmount) (d .remoteAmount);
+        remotes = share-by-length (q .forRemote) (d .remoteKey) (d .remoteAmount) (d .localKey) (d .localAmount);
+        locals = share-by-length (q .forRemote) (d .localKey) (d .localAmount) (d .remoteKey) (d .remoteAmount);
         states = ap (λ (rs : List (List ℕ)). stateBytes rs (firstRemote (q .forRemote) d) (firstLocal (q .forRemote) d)) (sym built-tracked);
         recorded = first-record;
       }
@@ -333,7 +334,7 @@ never : {A : Type 0} (d : Decision) (a : ChoiceAnswer) → Undecided a → a ≡
 never d a f e = absurd (subst Undecided e f)
 
 module _ (q : Request) (w out : List ℕ) (d : Decision) where
-  abbrev Begins : Bool → ChoiceOutcome → Type 0
+  abbrev Begins : Bool → Outcome ChoiceAnswer → Type 0
   Begins isLater o = o .answer ≡ answer·.Chosen d → Begun q isLater w
 
   module _ (v : validRequest q ≡ true) (full : Epoch) (f : delayOf (q .args) ≡ scaled·.Epoch full) where
@@ -341,7 +342,7 @@ module _ (q : Request) (w out : List ℕ) (d : Decision) where
     unfolding later laterOf laterState ifReady
     later-begins = go (unlocked (q .h) w) refl
       where
-        ready-by : (n share : ℕ) (t : Taken) (u : unlocked (q .h) w ≡ fine n share t) (r : Ready) (o : ChoiceOutcome)
+        ready-by : (n share : ℕ) (t : Taken) (u : unlocked (q .h) w ≡ fine n share t) (r : Ready) (o : Outcome ChoiceAnswer)
             → laterReady q (stand q w n share t) (ours q w n share t) ≡ r → Begins true (ifReady r out o)
         ready-by n share t u ready·.Yes o r e = later-begun q w n share t v full f u r
         ready-by n share t u (ready·.Wait number) o r e = never d _ tt e
@@ -406,20 +407,20 @@ module _ (q : Request) (isLater : Bool) (w : List ℕ) (c : Begun q isLater w) w
     begins : d .place ≡ c .place (d .choice)
     len : d .len ≡ recordSize (q .h) (d .choice)
     room : length (joined (d .choice)) ≤ length out
-    unlock : part bytes 0 (d .unlock) ≡ unlockOf (pairs q) (d .choice)
-    state : part bytes (d .unlock) (d .state) ≡ before
-    new : part bytes (d .unlock + d .state) (d .args) ≡ newArgs (q .args) (after (d .choice))
-    size : d .state ≡ length before
+    unlock : part bytes 0 (d .«unlock_len») ≡ unlockOf (pairs q) (d .choice)
+    state : part bytes (d .«unlock_len») (d .«state_len») ≡ before
+    new : part bytes (d .«unlock_len» + d .«state_len») (d .«args_len») ≡ newArgs (q .args) (after (d .choice))
+    size : d .«state_len» ≡ length before
 
   module _ (out : List ℕ) where
-    abbrev outcomeOf : Step → ChoiceOutcome
+    abbrev outcomeOf : Step → Outcome ChoiceAnswer
     outcomeOf s = handStep q (pickedBy (c .remote) (c .local) (c .delay) (c .place)) out s
 
     step-handed : (d : Decision) (s : Step) → c .step (q .time) ≡ s → outcomeOf s .answer ≡ answer·.Chosen d → Handed out d (outcomeOf s .bytes)
     unfolding handStep handedOut
     step-handed d (step·.Pending pending) f = λ e. never d _ tt e
     step-handed d (step·.Chosen choice key) f =
-        by-test (λ (o : ChoiceOutcome). o .answer ≡ answer·.Chosen d → Handed out d (o .bytes)) (leb (length (joined choice)) (length out)) _ _
+        by-test (λ (o : Outcome ChoiceAnswer). o .answer ≡ answer·.Chosen d → Handed out d (o .bytes)) (leb (length (joined choice)) (length out)) _ _
         (λ g e.
         let r : 0 + length (joined choice) ≤ length out = omega (arith, leb-true (length (joined choice)) (length out) g) in
         let p = parts-of (unlockOf (pairs q) choice) before (newArgs (q .args) (after choice)) (drop (0 + length (joined choice)) out) (sets out 0 (joined choice)) (sets-eq (joined choice) out 0 r) in
@@ -444,21 +445,12 @@ module _ (q : Request) (isLater : Bool) (w : List ℕ) (c : Begun q isLater w) w
 
   module _ (out : List ℕ) (d : Decision) (bytes : List ℕ) (t : Handed out d bytes) where
     -- it is among the TLCs, its key and its pair in their lists
-    chosen-within : Within (length (trackedTlcs q)) (length (pairs q)) (d .choice) × KeyBelow (length (settlementTlcs q)) (d .key)
+    chosen-within : Within (length (trackedTlcs q)) (length (pairs q)) (d .choice) × KeyIn (length (settlementTlcs q)) (d .key)
     chosen-within = rw (t .chosen) at (c .within (q .time))
 
     chosen-in : KeyIn (length (settlementTlcs q)) (d .key) × PairIn (length (pairs q)) (d .choice)
-    unfolding Within PairBelow Paired KeyIn PairIn
-    chosen-in = (key-in (d .key) (chosen-within .1), pair-in (d .choice) (chosen-within .0 .1))
-      where
-        key-in : (key : Key) → KeyBelow (length (settlementTlcs q)) key → KeyIn (length (settlementTlcs q)) key
-        key-in key·.Settlement f = tt
-        key-in (key·.Tlc place) f = f
-
-        pair-in : (choice : Choice) → PairBelow (length (pairs q)) choice → PairIn (length (pairs q)) choice
-        pair-in (choice·.Share side) f = tt
-        pair-in (choice·.Tlc place way·.Timeout) f = tt
-        pair-in (choice·.Tlc place (way·.Preimage pair)) f = f
+    unfolding Within
+    chosen-in = (chosen-within .1, chosen-within .0 .1)
 
     module _ (place : ℕ) (way : Way) (f : d .choice ≡ choice·.Tlc place way) where
       chosen-below : place < length (tlcsBefore q isLater w)
@@ -467,8 +459,9 @@ module _ (q : Request) (isLater : Bool) (w : List ℕ) (c : Begun q isLater w) w
           let b : place < length (trackedTlcs q) = rw f at (chosen-within .0 .0) in
           omega (arith, b, ap length (c .tlcs), tracked-length (trackedTlcs q))
 
-      chosen-few : place ≤ 253
-      chosen-few = omega (arith, chosen-below, ap length (c .tlcs), tracked-length (trackedTlcs q), c .few)
+      chosen-few : choiceByte (d .choice) ≤ 253
+      unfolding choiceByte
+      chosen-few = rw f (omega (arith, chosen-below, ap length (c .tlcs), tracked-length (trackedTlcs q), c .few))
 
       -- its record and its amount
       chosen-record : recordOf isLater (answer·.Chosen d) w (q .tracked) ≡ getD (tlcsBefore q isLater w) place []
@@ -481,48 +474,6 @@ module _ (q : Request) (isLater : Bool) (w : List ℕ) (c : Begun q isLater w) w
         where
           from : (k : ℕ) → k ≡ 1 → amountAt (getD (trackedRecords (trackedTlcs q)) place []) k ≡ amountAt (getD (trackedRecords (trackedTlcs q)) place []) 1
           from k e = rw e
-
--- ---- the promises of a chosen TLC
-
-decided : (q : Request) (isLater : Bool) (w out : List ℕ) (d : Decision) → Decides q isLater w out d
-    → (c : Begun q isLater w) × Handed q isLater w c out d (choiceOf q isLater w out .bytes)
-decided q isLater w out d e =
-    let c = choice-begins q w out d isLater e in
-    (c, handed q isLater w c out d e)
-
-pub never-above-253 : NeverAbove253
-unfolding choiceByte
-never-above-253 q isLater w out d place way e f =
-    let t = decided q isLater w out d e in
-    rw f (omega (arith, chosen-few q isLater w (t .0) out d _ (t .1) place way f))
-
-pub chosen-stands : ChosenStands
-chosen-stands q isLater w out d place way e f =
-    let t = decided q isLater w out d e in (
-      chosen-below q isLater w (t .0) out d _ (t .1) place way f,
-      (chosen-record q isLater w (t .0) out d _ (t .1) place way f, chosen-amount q isLater w (t .0) out d _ (t .1) place way f),
-    )
-
-pub in-their-lists : InTheirLists
-in-their-lists q isLater w out d e =
-    let t = decided q isLater w out d e in
-    chosen-in q isLater w (t .0) out d _ (t .1)
-
--- ---- the state before the unlock
-
-pub state-of-witness : StateOfWitness
-state-of-witness q w out d e into g =
-    let t = decided q true w out d e in
-    go (t .0) (t .1)
-  where
-    go : (c : Begun q true w) (t : Handed q true w c out d (choiceOf q true w out .bytes))
-        → updated (q .h) w into ≡ record { answer = written·.Bytes (d .state); bytes = sets into 0 (part (choiceOf q true w out .bytes) (d .unlock) (d .state)) }
-    go c t = rw (t .state, t .size) (c .states into (omega (arith, g, t .size)))
-
-pub state-of-data : StateOfData
-state-of-data q w out d e =
-    let t = decided q false w out d e in
-    t .1 .state ∙ t .0 .states
 
 -- ---- a later time, the whole choice
 
@@ -539,15 +490,15 @@ shorter ps x y stays = omega arith
 shorter ps x y (sooner {choice = choice} {place = place} b) =
     omega (arith, unlockBytes-length (record { byte = place; flag = false }) (replicate 65 0) [], unlock-least ps choice)
 
-pub later-time-choice : LaterTimeChoice
-later-time-choice q time isLater w out d i e =
-    let t = decided q isLater w out d e in
-    go (t .0) (t .1) (t .0 .step time) refl (rw (t .1 .chosen) at (t .0 .moves (q .time) time (omega (arith, i))))
+later-choice : (q : Request) (isLater : Bool) (w : List ℕ) (c : Begun q isLater w) (out : List ℕ) (d : Decision) (bytes : List ℕ) (t : Handed q isLater w c out d bytes)
+    (time : ℕ) → q .time ≤ time
+    → (d′ : Decision) × (Decides (atTime q time) isLater w out d′ × Onward (step·.Chosen (d .choice) (d .key)) (step·.Chosen (d′ .choice) (d′ .key)))
+later-choice q isLater w c out d bytes t time i = go (c .step time) refl (rw (t .chosen) at (c .moves (q .time) time (omega (arith, i))))
   where
-    go : (c : Begun q isLater w) (t : Handed q isLater w c out d (choiceOf q isLater w out .bytes)) (s : Step) → c .step time ≡ s → Onward (step·.Chosen (d .choice) (d .key)) s
+    go : (s : Step) → c .step time ≡ s → Onward (step·.Chosen (d .choice) (d .key)) s
         → (d′ : Decision) × (Decides (atTime q time) isLater w out d′ × Onward (step·.Chosen (d .choice) (d .key)) (step·.Chosen (d′ .choice) (d′ .key)))
-    go c t (step·.Pending pending) f m = absurd (shorter (pairs q) _ _ m)
-    go c t (step·.Chosen choice key) f m =
+    go (step·.Pending pending) f m = absurd (shorter (pairs q) _ _ m)
+    go (step·.Chosen choice key) f m =
         let state = before q isLater w c in
         let now = unlockOf (pairs q) (d .choice) in
         let next = unlockOf (pairs q) choice in
@@ -566,7 +517,7 @@ later-time-choice q time isLater w out d i e =
         let r = step-room q isLater w c out time choice key f g in
         (r .0, (r .1 .0, rw (r .1 .1 .0, r .1 .1 .1) m))
 
--- ---- the update that follows
+-- ---- all promises
 
 -- the state is sound, and the pairs are whole
 module _ (q : Request) (isLater : Bool) (w : List ℕ) (c : Begun q isLater w) where
@@ -584,24 +535,42 @@ module _ (q : Request) (isLater : Bool) (w : List ℕ) (c : Begun q isLater w) w
   unfolding entries
   begun-pairs = even-records pairLen (length (q .preimages) / pairLen) (q .preimages) (div-mul-le-self (length (q .preimages)) pairLen)
 
-  begun-accepted : (out : List ℕ) (d : Decision) (bytes : List ℕ) → Handed q isLater w c out d bytes → Accepted q d bytes
-  begun-accepted out d bytes t =
+  begun-promised : (out : List ℕ) (d : Decision) (bytes : List ℕ) → Handed q isLater w c out d bytes → Promised q isLater w out bytes d
+  begun-promised out d bytes t =
       let tlcs = trackedRecords (trackedTlcs q) in
+      let state = stateBytes tlcs (c .remote) (c .local) in
       let n : length (trackedTlcs q) ≡ length tlcs = sym (tracked-length (trackedTlcs q)) in
       let b : Within (length tlcs) (length (pairs q)) (d .choice) = rw n at (chosen-within q isLater w c out d bytes t .0) in
       record {
+        never-above-253 = λ place way f. omega (arith, chosen-few q isLater w c out d bytes t place way f);
+        chosen-stands =
+            λ place way f. (
+              chosen-below q isLater w c out d bytes t place way f,
+              (chosen-record q isLater w c out d bytes t place way f, chosen-amount q isLater w c out d bytes t place way f),
+            );
+        in-their-lists = chosen-in q isLater w c out d bytes t;
         left = after q isLater w c (d .choice);
         room = omega (arith, t .size, after-small tlcs (c .remote) (c .local) (d .choice) (c .remotes) (c .locals));
         updates =
             λ count into g. rw (t .state, t .unlock)
             (unlock-accepted begun-sound (omega (arith, n, c .few)) (pairs q) begun-pairs (d .choice) b count into g);
         hashed = t .new;
+        state-of-witness =
+            λ e into g. rw (t .state, t .size) (subst (λ (later : Bool). States q later w state) e (c .states) into (omega (arith, g, t .size)));
+        state-of-data = λ e. t .state ∙ subst (λ (later : Bool). States q later w state) e (c .states);
+        later-time = λ time i. later-choice q isLater w c out d bytes t time (omega (arith, i));
       }
 
-pub handed-accepted : HandedAccepted
-handed-accepted q isLater w out d e =
+decided : (q : Request) (isLater : Bool) (w out : List ℕ) (d : Decision) → Decides q isLater w out d
+    → (c : Begun q isLater w) × Handed q isLater w c out d (choiceOf q isLater w out .bytes)
+decided q isLater w out d e =
+    let c = choice-begins q w out d isLater e in
+    (c, handed q isLater w c out d e)
+
+pub promises : Promises
+promises q isLater w out d e =
     let t = decided q isLater w out d e in
-    begun-accepted q isLater w (t .0) out d _ (t .1)
+    begun-promised q isLater w (t .0) out d _ (t .1)
 
 -- ---- what is handed out, for whoever counts what it pays
 
@@ -618,9 +587,9 @@ pub record Parts (q : Request) (d : Decision) (bytes : List ℕ) : Type 0 where
   pub local : List ℕ
   pub sound : Sound (q .h) tlcs remote local
   pub few : length tlcs ≤ 254
-  pub state : part bytes (d .unlock) (d .state) ≡ stateBytes tlcs remote local
-  pub alone : unlocksIn (part bytes 0 (d .unlock)) ≡ record { whole = part bytes 0 (d .unlock) ∷ []; rest = [] }
-  pub names : Names tlcs remote local (d .choice) (getD (part bytes 0 (d .unlock)) 0 0) (d .amount)
+  pub state : part bytes (d .«unlock_len») (d .«state_len») ≡ stateBytes tlcs remote local
+  pub alone : unlocksIn (part bytes 0 (d .«unlock_len»)) ≡ record { whole = part bytes 0 (d .«unlock_len») ∷ []; rest = [] }
+  pub names : Names tlcs remote local (d .choice) (getD (part bytes 0 (d .«unlock_len»)) 0 0) (d .amount)
 
 names-by : (tlcs : List (List ℕ)) (remote local : List ℕ) (c : Choice) → Below (length tlcs) c → Names tlcs remote local c (choiceByte c) (choiceAmount tlcs remote local c)
 unfolding Below choiceByte choiceAmount

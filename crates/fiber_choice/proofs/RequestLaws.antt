@@ -1,7 +1,6 @@
 -- Laws of `specs/Request.antt`: row 14 by its parts, in the order of the code, and the delay in the lock args.
 -- Assumes nothing.
 use Prim.Native.Nat.{ℕ, _+_, _%_, _≤_, _<_}
-use native.Mathlib.Omega.{arith}
 use mathlib.Core.Path.{_≡_, refl, sym, ap, subst, _∙_}
 use mathlib.Core.Bool.{Bool, true, false, cond, _&&_, and-true, and-false, false≢true}
 use mathlib.Core.List.{List}
@@ -20,8 +19,8 @@ use Rattle.fiber_since.specs.Epoch.{withinBits}
 use Rattle.fiber_since.proofs.EpochLaws.{epoch-within}
 use Rattle.fiber_types.specs.Records.{validHashLen}
 use Rattle.fiber_choice.specs.declared.kinds.Scalars.{Scalars}
-use Rattle.fiber_choice.specs.Entries.{entries, wholeEntries, all, settlementLen, validSettlement, trackedLen, validTracked, pairLen}
-use Rattle.fiber_choice.specs.Request.{SettlementData, Request, requestOf, settlementTlcs, trackedTlcs, pairs, validData, validRequest, ofMetric, delayOf}
+use Rattle.fiber_choice.specs.Entries.{entries, wholeEntries, all, settlementLen, validSettlement, trackedLen, validTracked}
+use Rattle.fiber_choice.specs.Request.{SettlementData, requestOf, validData, validRequest, ofMetric, delayOf}
 use Rattle.fiber_choice.proofs.HandedLaws.{tracked-size}
 
 -- ---- row 14

@@ -5,13 +5,13 @@ use native.Mathlib.Nat.{suc-mul, zero-mul, mul-le-mul-right, sub-zero, sub-eq-ze
 use native.Mathlib.Numerals.{add-one}
 use native.Mathlib.Omega.{arith}
 use mathlib.Core.Path.{_≡_, refl, sym, ap, subst, _∙_}
-use mathlib.Core.Bool.{Bool, true, false, cond, _&&_, _||_, and-eq-true-iff, false≢true}
+use mathlib.Core.Bool.{Bool, true, false, cond, _&&_, _||_, false≢true}
 use mathlib.Core.List.{List, [], _∷_}
 use mathlib.Core.Logic.{_⊎_, inl, inr}
 use lib.Dec.{eqb, leb}
 use lib.ListN.{length, getD, take, drop, replicate, drop-of-length-le}
 use lib.Seq.{drop-drop}
-use borrow.Author.Tests.{le-leb, lt-leb, leb-true, eqb-true, eqb-false}
+use borrow.Author.Tests.{le-leb, lt-leb, leb-true, eqb-false}
 use Rattle.fiber_bytes.proofs.CaseLaws.{by-each}
 use Rattle.fiber_bytes.specs.Bytes.{part}
 use Rattle.fiber_bytes.proofs.BytesLaws.{part-behind}
@@ -21,16 +21,15 @@ use Rattle.fiber_since.specs.declared.epoch.Scaled.the-variants as scaled·
 use Rattle.fiber_since.specs.Epoch.{withinBits, scaled}
 use Rattle.fiber_since.specs.inner.Bounds as bounds·
 use Rattle.fiber_since.proofs.EpochLaws.{within}
-use Rattle.fiber_witness.specs.declared.witness.WitnessRead.{WitnessRead}
 use Rattle.fiber_witness.specs.declared.witness.WitnessRead.the-variants as read·
 use Rattle.fiber_witness.specs.declared.unlocks.UnlocksAnswer.{UnlocksAnswer}
 use Rattle.fiber_witness.specs.declared.unlocks.UnlocksAnswer.the-variants as unlocks·
-use Rattle.fiber_witness.specs.Witness.{recordLen, sharePlace, records, member, places, readWitness}
-use Rattle.fiber_witness.specs.Update.{TakenUnlocks, none, takeUnlocks, keep, shareLeft, standing, Unlocked, fine, faulty, byAnswer, byUnlocks, byRead, unlocked}
-use Rattle.fiber_witness.specs.inner.Marks.{Marks, marked}
-use Rattle.fiber_witness.proofs.WitnessLaws as witness·
-use Rattle.fiber_witness.proofs.WitnessLaws.{left, records-length, FineRead}
-use Rattle.fiber_witness.proofs.UpdateLaws.{Told, marks-marked, keep-marked, keep-cons}
+use Rattle.fiber_witness.specs.Witness.{recordLen, records, member, places, readWitness}
+use Rattle.fiber_witness.specs.Update.{none, takeUnlocks, keep, shareLeft, standing, byRead, unlocked}
+use Rattle.fiber_witness.specs.inner.Strided.{sharePlace}
+use Rattle.fiber_witness.specs.inner.Marks.{Marks, marked, TakesAs}
+use Rattle.fiber_witness.proofs.WitnessLaws.{left, records-length}
+use Rattle.fiber_witness.proofs.UpdateLaws.{unlocks-come, All, takes-all, takes-faulty, marks-marked, keep-marked, keep-cons}
 use Rattle.fiber_choice.specs.declared.kinds.Side.{Side}
 use Rattle.fiber_choice.specs.declared.kinds.Way.{Way}
 use Rattle.fiber_choice.specs.declared.kinds.Choice.{Choice}
@@ -50,20 +49,21 @@ use Rattle.fiber_choice.specs.Request.{SettlementData, Request, settleme
 use Rattle.fiber_choice.specs.FirstRecords.{hashOf, shareBytes, firstRecords, firstRemote, firstLocal}
 use Rattle.fiber_choice.specs.Walk.{ourShare}
 use Rattle.fiber_choice.specs.Verdicts.{duesBy}
-use Rattle.fiber_choice.specs.HandedOut.{Picked, ChoiceOutcome, Gives, unwritten, handedOut}
+use Rattle.fiber_types.specs.Records.{Outcome, Gives}
+use Rattle.fiber_choice.specs.HandedOut.{Picked, handedOut}
 use Rattle.fiber_choice.specs.Settlements.{walkedBy, handStep, ifReady, laterReady, laterChoice, unsettled, laterPlace, laterPicked, laterState, laterOf, later, firstDelay, firstPlace, firstPicked, firstThirds, lengthsZero, firstReady, first}
-use Rattle.fiber_choice.specs.inner.Plan.{Reaches, Within, Below, PairBelow}
-use Rattle.fiber_choice.proofs.EntriesLaws.{lists-short, lists-length, record-at, tracked-length, entries-length, entry-room, entries-cons}
+use Rattle.fiber_choice.specs.inner.Plan.{Reaches, Within, Below}
+use Rattle.fiber_choice.proofs.EntriesLaws.{lists-short, lists-length, record-at, tracked-length, entries-length, entry-room, entries-cons, lists-equal}
 use Rattle.fiber_choice.proofs.FirstRecordsLaws.{firsts-count}
 use Rattle.fiber_choice.proofs.WalkLaws.{StepWithin, walked-within, reaches-later, reaches-first}
 
 -- ---- what a settlement comes to
 
 -- what is the same outcome leaves the same
-pub leaves-as : (x y : ChoiceOutcome) → x ≡ y → (r : ChoiceAnswer) (o : List ℕ) → Gives x r o → Gives y r o
+pub leaves-as : (x y : Outcome ChoiceAnswer) → x ≡ y → (r : ChoiceAnswer) (o : List ℕ) → Gives x r o → Gives y r o
 leaves-as x y e r o w = rw (← e) w
 
-module _ (r : Ready) (out : List ℕ) (o : ChoiceOutcome) where
+module _ (r : Ready) (out : List ℕ) (o : Outcome ChoiceAnswer) where
   -- a wait before the walk
   pub ready-wait : (number : ℕ) → r ≡ ready·.Wait number → Gives (ifReady r out o) (answer·.Wait number 0) out
   unfolding ifReady
@@ -367,7 +367,7 @@ module _ (q : Request) (other l : List ℕ) (b : Bool) (e : l ≡ part other 0 2
 
 -- what is chosen is among the tracked TLCs
 pub choice-within : (q : Request) (other : List ℕ) → StepWithin (length (trackedTlcs q)) (length (settlementTlcs q)) (length (pairs q)) (laterChoice q other)
-unfolding laterChoice Within Below PairBelow
+unfolding laterChoice Within Below
 choice-within q other =
     by-each (StepWithin (length (trackedTlcs q)) (length (settlementTlcs q)) (length (pairs q))) (same (take 20 other) (replicate 20 0)) _ _ ((tt, tt), tt)
     (walked-within (q .h) (q .forRemote) (q .time) (settlementTlcs q) (pairs q) stage·.Later (length (trackedTlcs q)) (reaches-later _ _) (trackedTlcs q) refl)
@@ -422,30 +422,36 @@ module _ (q : Request) (w out : List ℕ) where
 
   -- one that is read whole
   pub later-whole : (n k share start : ℕ) → readWitness (q .h) w ≡ read·.Whole n k share start
-      → laterOf q w out (byUnlocks n share (takeUnlocks n w none (places w start))) ≡ later q w out
+      → laterOf q w out (takeUnlocks n share w none (places w start)) ≡ later q w out
   unfolding later unlocked byRead
   later-whole n k share start e = rw e
 
-  module _ (n share : ℕ) (r : TakenUnlocks) (v : UnlocksAnswer) (marks : List Bool) (remote local : Bool) (j : Told r v marks remote local) where
+  -- with the answer of `take_unlocks`
+  module _ (n share start : ℕ) (v : UnlocksAnswer) (marks : List Bool) (remote local : Bool)
+      (j : TakesAs (takeUnlocks n share w none (places w start)) v marks remote local) where
     -- row 5 or 6
-    pub later-faulty : (k p : ℕ) → v ≡ unlocks·.Refused k p → Gives (laterOf q w out (byUnlocks n share r)) (answer·.Refused k p) out
-    unfolding laterOf byUnlocks byAnswer
-    later-faulty k p e = (rw (sym (j .0) ∙ e), rw (sym (j .0) ∙ e))
+    pub later-faulty : (k p : ℕ) → v ≡ unlocks·.Refused k p → Gives (laterOf q w out (takeUnlocks n share w none (places w start))) (answer·.Refused k p) out
+    unfolding laterOf
+    later-faulty k p e = let f = takes-faulty v marks remote local (unlocks-come n share w none (places w start)) j k p e in (rw f, rw f)
 
     -- every unlock is taken, and the marks say what was settled
     pub later-fine : (x y : List ℕ) → v ≡ unlocks·.Fine → x ≡ shareLeft remote (part w share 36) → y ≡ shareLeft local (part w (share + 36) 36)
-        → laterState q out (standing (q .h) w n (marked marks)) (unsettled (marked marks) 0 n) x y ≡ laterOf q w out (byUnlocks n share r)
-    unfolding laterOf byUnlocks byAnswer standing
-    later-fine x y e f g =
-        rw (
-          sym (j .0) ∙ e,
-          f,
-          g,
-          keep-marked marks (r .taken .settled) (j .1 .0) 0 (records (recordLen (q .h)) n (drop 2 w)),
-          unsettled-marked marks (r .taken .settled) (j .1 .0) 0 n,
-          j .1 .1 .0,
-          j .1 .1 .1,
-        )
+        → laterState q out (standing (q .h) w n (marked marks)) (unsettled (marked marks) 0 n) x y ≡ laterOf q w out (takeUnlocks n share w none (places w start))
+    unfolding laterOf standing
+    later-fine x y e f g = go (takes-all v marks remote local (unlocks-come n share w none (places w start)) j e)
+      where
+        go : All n share marks remote local (takeUnlocks n share w none (places w start))
+            → laterState q out (standing (q .h) w n (marked marks)) (unsettled (marked marks) 0 n) x y ≡ laterOf q w out (takeUnlocks n share w none (places w start))
+        go t =
+            rw (
+              t .is,
+              f,
+              g,
+              keep-marked marks (t .taken .settled) (t .says) 0 (records (recordLen (q .h)) n (drop 2 w)),
+              unsettled-marked marks (t .taken .settled) (t .says) 0 n,
+              t .remote-is,
+              t .local-is,
+            )
 
 -- ---- a first settlement
 
@@ -552,7 +558,7 @@ first-ready q full = go (lengthsZero (q .header) (q .current) full) (leb (length
 
 -- their fields being within their bits
 pub ready-within : (q : Request) (full : Epoch) → FirstReady q full → withinBits (q .header) ≡ true → withinBits (q .current) ≡ true → withinBits full ≡ true
-    → bounds·.Within (q .header) × (bounds·.Within (q .current) × bounds·.Within full)
+    → bounds·.Bounded (q .header) × (bounds·.Bounded (q .current) × bounds·.Bounded full)
 ready-within q full r a b c = (within (q .header) a (r .some .0), (within (q .current) b (r .some .1 .0), within full c (r .some .1 .1)))
 
 module _ (q : Request) (full : Epoch) (out : List ℕ) (r : Ready) (e : r ≡ firstReady q full) where
@@ -570,16 +576,16 @@ module _ (q : Request) (full : Epoch) (out : List ℕ) (r : Ready) (e : r ≡ fi
   unfolding first
   first-begins f = ready-yes (firstReady q full) out _ (sym e ∙ f)
 
--- one of two shares, as a test picks it
-pub remote-by : (b : Bool) (d : SettlementData) (ours theirs r : List ℕ) → ours ≡ shareBytes (d .localKey) (d .localAmount) → theirs ≡ shareBytes (d .remoteKey) (d .remoteAmount)
-    → ((b ≡ true) × (r ≡ theirs)) ⊎ ((b ≡ false) × (r ≡ ours)) → r ≡ firstRemote b d
+-- the shares, as the code makes them
+pub remote-by : (b : Bool) (d : SettlementData) (r : List ℕ) → r ≡ cond b (shareBytes (d .remoteKey) (d .remoteAmount)) (shareBytes (d .localKey) (d .localAmount))
+    → r ≡ firstRemote b d
 unfolding firstRemote
-remote-by b d ours theirs r e f c = rw (← e, ← f) (by-flag b theirs ours r c)
+remote-by b d r e = e
 
-pub local-by : (b : Bool) (d : SettlementData) (ours theirs r : List ℕ) → ours ≡ shareBytes (d .localKey) (d .localAmount) → theirs ≡ shareBytes (d .remoteKey) (d .remoteAmount)
-    → ((b ≡ true) × (r ≡ ours)) ⊎ ((b ≡ false) × (r ≡ theirs)) → r ≡ firstLocal b d
+pub local-by : (b : Bool) (d : SettlementData) (r : List ℕ) → r ≡ cond b (shareBytes (d .localKey) (d .localAmount)) (shareBytes (d .remoteKey) (d .remoteAmount))
+    → r ≡ firstLocal b d
 unfolding firstLocal
-local-by b d ours theirs r e f c = rw (← e, ← f) (by-flag b ours theirs r c)
+local-by b d r e = e
 
 -- by the thirds of the delay, with what the code finds of them
 module _ (q : Request) (out : List ℕ) (full third two : Epoch) (x y : Scaled) (ex : x ≡ scaled full 1 3) (fx : x ≡ scaled·.Epoch third) (ey : y ≡ scaled full 2 3) (fy : y ≡ scaled·.Epoch two)
@@ -646,48 +652,9 @@ standing-at h w n s k g =
     let b : j < n = omega (arith, p .0, records-length (recordLen h) n (drop 2 w)) in
     sym (p .1 ∙ record-at (recordLen h) n (drop 2 w) j b ∙ ap (take (recordLen h)) (drop-drop (j * recordLen h) 2 w))
 
--- of unlocks that are turned down nothing is said
-abbrev pub Takes : ℕ → List ℕ → Unlocked → Type 0
-Takes h w (fine n share t) = share + 72 ≤ length w
-Takes h w (faulty number place) = Unit {0}
+-- ---- before a first settlement's walk
 
--- where all are taken, the witness has both shares
-pub unlocked-shares : (h : ℕ) (w : List ℕ) → Takes h w (unlocked h w)
-unfolding unlocked byRead byUnlocks byAnswer
-unlocked-shares h w = go (readWitness h w) (witness·.fine h w)
-  where
-    took : (n share : ℕ) → share + 72 ≤ length w → (j : TakenUnlocks) (v : UnlocksAnswer) → Takes h w (byAnswer n share (j .taken) v)
-    took n share g j unlocks·.Fine = g
-    took n share g j (unlocks·.Refused number place) = tt
-
-    go : (r : WitnessRead) → FineRead h w r → Takes h w (byRead w r)
-    go (read·.Whole n k share start) f = took n share (f .shares) (takeUnlocks n w none (places w start)) (takeUnlocks n w none (places w start) .answer)
-    go (read·.Refused number place) f = tt
-
--- ---- lists that are the same are equal
-
--- what a test of two lists, one element after the other, says yes to is equal
-alike : {A : Type 0} (one : A → A → Bool) (test : List A → List A → Bool)
-    → ((y : A) (b : List A) → test [] (y ∷ b) ≡ false) → ((x : A) (a : List A) → test (x ∷ a) [] ≡ false)
-    → ((x y : A) (a b : List A) → test (x ∷ a) (y ∷ b) ≡ (one x y && test a b))
-    → ((x y : A) → one x y ≡ true → x ≡ y)
-    → (a b : List A) → test a b ≡ true → a ≡ b
-alike one test f g h eq [] [] e = refl
-alike one test f g h eq [] (y ∷ b) e = absurd (false≢true (sym (f y b) ∙ e))
-alike one test f g h eq (x ∷ a) [] e = absurd (false≢true (sym (g x a) ∙ e))
-alike one test f g h eq (x ∷ a) (y ∷ b) e =
-    let s = and-eq-true-iff (one x y) (test a b) .0 (sym (h x y a b) ∙ e) in
-    rw (eq x y (s .0), alike one test f g h eq a b (s .1))
-
-same-equal : (a b : List ℕ) → same a b ≡ true → a ≡ b
-unfolding same
-same-equal = alike eqb same (λ y b. refl) (λ x a. refl) (λ x y a b. refl) (λ x y e. eqb-true x y e)
-
-pub lists-equal : (a b : List (List ℕ)) → sameLists a b ≡ true → a ≡ b
-unfolding sameLists
-lists-equal = alike same sameLists (λ y b. refl) (λ x a. refl) (λ x y a b. refl) same-equal
-
--- so where a first settlement's walk may begin, the built records are the tracked ones
+-- where it may begin, the built records are the tracked ones
 pub first-built : (q : Request) (full : Epoch) → firstReady q full ≡ ready·.Yes → firstRecords (q .h) (q .forRemote) (settlementTlcs q) ≡ trackedRecords (trackedTlcs q)
 unfolding firstReady
 first-built q full r = lists-equal _ _ (go (lengthsZero (q .header) (q .current) full) (leb (length (settlementTlcs q)) 254) _ r)

@@ -5,7 +5,7 @@ use native.Mathlib.Omega.{arith}
 use mathlib.Core.Path.{_≡_, refl, sym, ap, subst, _∙_}
 use mathlib.Core.Bool.{Bool, true, false, not, cond, _&&_}
 use mathlib.Core.List.{List, [], _∷_}
-use lib.Dec.{eqb, ltb}
+use lib.Dec.{eqb}
 use lib.ListN.{length, getD, take, drop, length-drop}
 use lib.Seq.{take-take, take-all}
 use borrow.Author.Tests.{lt-ltb, le-ltb}
@@ -35,7 +35,7 @@ use Rattle.fiber_choice.specs.declared.kinds.Step.the-variants as step·
 use Rattle.fiber_choice.specs.Entries.{same, entries, received, hash, expiryMs, settlementLen, trackedRecord}
 use Rattle.fiber_choice.specs.Preimages.{countingPair}
 use Rattle.fiber_choice.specs.Walk.{timeoutKind, Cause, noExpiry, noKey, notDue, noPreimage, Verdict, passed, timeout, ready, falls, stepOf}
-use Rattle.fiber_choice.specs.Verdicts.{isKey, findKey, keyOf, byPair, byKey, byExpiry, laterVerdict, firstPreimage, duesBy, firstVerdict, verdict}
+use Rattle.fiber_choice.specs.Verdicts.{isKey, findKey, keyOf, byPair, byKey, byExpiry, laterVerdict, duesBy, firstVerdict, verdict}
 use Rattle.fiber_choice.specs.inner.Plan.{Reaches}
 use Rattle.fiber_choice.proofs.EntriesLaws.{Along, along-end, along-stop, along-next, entries-length, entry-at, entry-room}
 use Rattle.fiber_choice.proofs.PreimagesLaws.{FoundBelow, counting-below}
@@ -220,17 +220,17 @@ module _ (forRemote : Bool) (ps : List (List ℕ)) (d : Dues) (place : ℕ) (s t
     module _ (f : d .third ≡ true) (found : Found) (p : found ≡ countingPair ps t) where
       -- and behind it, with a preimage that counts
       pub first-ready : (pair : ℕ) → found ≡ found·.At pair → ready pair place ≡ firstVerdict forRemote ps d place s t
-      unfolding firstVerdict firstPreimage
+      unfolding firstVerdict byPair
       first-ready pair q = rw (← g, k, f, ← p, q)
 
       -- without one, the full delay due
       pub first-falls : (ms : ℕ) → ms ≡ expiryMs s → found ≡ found·.None → d .full ≡ true → falls ms ≡ firstVerdict forRemote ps d place s t
-      unfolding firstVerdict firstPreimage
+      unfolding firstVerdict byPair
       first-falls ms e q r = rw (e, ← g, k, f, ← p, q, r)
 
       -- or not
       pub first-waits : found ≡ found·.None → d .full ≡ false → passed noPreimage ≡ firstVerdict forRemote ps d place s t
-      unfolding firstVerdict firstPreimage
+      unfolding firstVerdict byPair
       first-waits q r = rw (← g, k, f, ← p, q, r)
 
 -- ---- either
@@ -289,7 +289,7 @@ module _ (forRemote : Bool) (ps : List (List ℕ)) where
       kind : Bool
       kind = timeoutKind forRemote (isOffered (tlcAt h (trackedRecord t) 0))
 
-      pair-within : (ms key : ℕ) → key < length tlcs → (p : Found) → FoundBelow (length ps) p → VerdictWithin (length tlcs) (length ps) (byPair ms key p)
+      pair-within : (ms key : ℕ) → key < length tlcs → (p : Found) → FoundBelow (length ps) p → VerdictWithin (length tlcs) (length ps) (byPair true ms key p)
       pair-within ms key g (found·.At pair) f = (f, g)
       pair-within ms key g found·.None f = tt
 
@@ -300,13 +300,13 @@ module _ (forRemote : Bool) (ps : List (List ℕ)) where
 
   -- of a first one
   first-within : (d : Dues) (n place : ℕ) (s t : List ℕ) → place < n → VerdictWithin n (length ps) (firstVerdict forRemote ps d place s t)
-  unfolding firstVerdict firstPreimage
+  unfolding firstVerdict byPair
   first-within d n place s t h =
       by-each (VerdictWithin n (length ps)) (timeoutKind forRemote (eqb (received s) 0)) _ _
       (by-each (VerdictWithin n (length ps)) (d .«two_thirds») _ _ h tt)
       (by-each (VerdictWithin n (length ps)) (d .third) _ _ (go (countingPair ps t) (counting-below ps t)) tt)
     where
-      go : (p : Found) → FoundBelow (length ps) p → VerdictWithin n (length ps) (firstPreimage (d .full) (expiryMs s) place p)
+      go : (p : Found) → FoundBelow (length ps) p → VerdictWithin n (length ps) (byPair (d .full) (expiryMs s) place p)
       go (found·.At pair) f = (f, h)
       go found·.None f = by-each (VerdictWithin n (length ps)) (d .full) _ _ tt tt
 

@@ -1,10 +1,10 @@
 -- Laws of `specs/Walk.antt`: the loop over the TLCs, for both settlements, and what a walk can choose.
 -- Assumes nothing.
-use Prim.Native.Nat.{ℕ, zero, suc, _+_, _-_, _*_, _/_, _≤_, _<_}
+use Prim.Native.Nat.{ℕ, _+_, _-_, _/_, _≤_, _<_}
 use native.Mathlib.Nat.{zero-mul}
 use native.Mathlib.Omega.{arith}
-use mathlib.Core.Path.{_≡_, refl, sym, ap, subst, _∙_}
-use mathlib.Core.Bool.{Bool, true, false, cond, _&&_, and-false}
+use mathlib.Core.Path.{_≡_, sym, ap, subst, _∙_}
+use mathlib.Core.Bool.{Bool, true, false, _&&_, and-false}
 use mathlib.Core.List.{List, [], _∷_}
 use lib.Dec.{eqb, ltb}
 use lib.ListN.{length, take, drop}
@@ -23,7 +23,8 @@ use Rattle.fiber_witness.proofs.UpdateLaws.{part-between}
 use Rattle.fiber_choice.specs.Entries.{entries}
 use Rattle.fiber_choice.specs.Walk.{ourShare, Verdict, passed, timeout, ready, falls, stepOf, onward, walk, orShare}
 use Rattle.fiber_choice.specs.Verdicts.{verdict, verdicts, mayShare, walked}
-use Rattle.fiber_choice.specs.inner.Plan.{Reaches, ReachesAll, Within, Below, PairBelow, Paired}
+use Rattle.fiber_choice.specs.inner.Plan.{Reaches, ReachesAll, Within, Below}
+use Rattle.fiber_choice.specs.Promises.{KeyIn}
 use Rattle.fiber_choice.proofs.EntriesLaws.{Along, along-end, along-stop, along-next, entries-length}
 use Rattle.fiber_choice.proofs.VerdictsLaws.{VerdictWithin, verdict-within}
 
@@ -94,22 +95,22 @@ module _ (h : ℕ) (forRemote : Bool) (time : ℕ) (tlcs ps : List (List ℕ)) (
 module _ (forRemote may : Bool) (s : Step) where
   -- none chosen and none pending
   pub share-taken : (pending : ℕ) → s ≡ step·.Pending pending → pending ≡ 0 → may ≡ true → ourShare forRemote ≡ orShare forRemote may s
-  unfolding orShare
+  unfolding orShare onward
   share-taken pending e f g = rw (e, eq-eqb pending 0 f, g)
 
   -- some pending
   pub share-pending : (pending : ℕ) → s ≡ step·.Pending pending → (pending ≡ 0 → ⊥) → step·.Pending pending ≡ orShare forRemote may s
-  unfolding orShare
+  unfolding orShare onward
   share-pending pending e f = rw (e, ne-eqb pending 0 f)
 
   -- or it may not be taken yet
   pub share-early : (pending : ℕ) → s ≡ step·.Pending pending → may ≡ false → step·.Pending pending ≡ orShare forRemote may s
-  unfolding orShare
+  unfolding orShare onward
   share-early pending e f = rw (e, f, and-false (eqb pending 0))
 
   -- one chosen
   pub share-behind : (choice : Choice) (key : Key) → s ≡ step·.Chosen choice key → step·.Chosen choice key ≡ orShare forRemote may s
-  unfolding orShare
+  unfolding orShare onward
   share-behind choice key e = rw e
 
 -- as the code puts them together
@@ -129,20 +130,15 @@ reaches-first d n k e place g = omega arith
 
 -- ---- what is chosen
 
--- a key is our own, or among n settlement TLCs
-abbrev pub KeyBelow : ℕ → Key → Type 0
-KeyBelow n key·.Settlement = Unit {0}
-KeyBelow n (key·.Tlc place) = place < n
-
 -- Among n TLCs, k settlement TLCs and m pairs. Where nothing is chosen nothing is said.
 abbrev pub StepWithin : ℕ → ℕ → ℕ → Step → Type 0
 StepWithin n k m (step·.Pending pending) = Unit {0}
-StepWithin n k m (step·.Chosen choice key) = Within n m choice × KeyBelow k key
+StepWithin n k m (step·.Chosen choice key) = Within n m choice × KeyIn k key
 
 module _ (n k m : ℕ) where
   -- one step chooses its own place
   step-within : (time place pending : ℕ) → place < n → (v : Verdict) → VerdictWithin k m v → StepWithin n k m (stepOf time place pending v)
-  unfolding stepOf Within Below PairBelow Paired
+  unfolding stepOf Within Below
   step-within time place pending h (passed why) f = tt
   step-within time place pending h (timeout ms key) f = by-each (StepWithin n k m) (ltb ms time) _ _ ((h, tt), f) tt
   step-within time place pending h (ready pair key) f = ((h, f .0), f .1)
@@ -154,7 +150,7 @@ module _ (n k m : ℕ) where
   onward-within (step·.Chosen choice key) rest f g = f
 
   share-within : (forRemote may : Bool) (s : Step) → StepWithin n k m s → StepWithin n k m (orShare forRemote may s)
-  unfolding orShare Within Below PairBelow
+  unfolding orShare onward Within Below
   share-within forRemote may (step·.Pending pending) f = by-each (StepWithin n k m) (eqb pending 0 && may) _ _ ((tt, tt), tt) tt
   share-within forRemote may (step·.Chosen choice key) f = f
 

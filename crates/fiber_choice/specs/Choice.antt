@@ -8,15 +8,15 @@ use Rattle.fiber_since.specs.declared.epoch.Scaled.the-variants as scaled·
 use Rattle.fiber_choice.specs.declared.kinds.ChoiceAnswer.{ChoiceAnswer}
 use Rattle.fiber_choice.specs.declared.kinds.ChoiceAnswer.the-variants as answer·
 use Rattle.fiber_choice.specs.Request.{Request, validRequest, delayOf}
-use Rattle.fiber_choice.specs.HandedOut.{ChoiceOutcome, unwritten}
+use Rattle.fiber_types.specs.Records.{Outcome, unwritten}
 use Rattle.fiber_choice.specs.Settlements.{later, first}
 
-unfoldable pub afterDelay : Request → Bool → List ℕ → List ℕ → Scaled → ChoiceOutcome
+unfoldable pub afterDelay : Request → Bool → List ℕ → List ℕ → Scaled → Outcome ChoiceAnswer
 afterDelay q isLater w out (scaled·.Epoch full) = cond isLater (later q w out) (first q full out)
 afterDelay q isLater w out (scaled·.Refused number place) = unwritten (answer·.Refused number place) out
 
 -- 14, 10, 11, then reading and the rest of the rows in their order, 13 last
-unfoldable pub choiceOf : Request → Bool → List ℕ → List ℕ → ChoiceOutcome
+unfoldable pub choiceOf : Request → Bool → List ℕ → List ℕ → Outcome ChoiceAnswer
 choiceOf q isLater w out = cond (validRequest q) (afterDelay q isLater w out (delayOf (q .args))) (unwritten (answer·.Refused 14 0) out)
 
 -- a record, as a part of the witness or of the tracked list

@@ -1,6 +1,5 @@
 -- What is handed out; document 01, "Handed out", with row 13 of its table.
 use Prim.Native.Nat.{ℕ}
-use mathlib.Core.Path.{_≡_}
 use mathlib.Core.Bool.{true, false, cond}
 use mathlib.Core.List.{List, [], _∷_, _++_}
 use lib.ListN.{length, getD, take, drop, replicate}
@@ -8,12 +7,10 @@ use lib.Seq.{sets}
 use lib.Dec.{leb}
 use Rattle.fiber_blake2b.specs.Blake2b.{ckbHash}
 use Rattle.fiber_types.specs.declared.tlc.Amount.{Amount}
-use Rattle.fiber_types.specs.Records.{amountAt, unlockBytes}
+use Rattle.fiber_types.specs.Records.{Outcome, unwritten, amountAt, unlockBytes}
 use Rattle.fiber_witness.specs.Witness.{recordLen, stateBytes}
 use Rattle.fiber_witness.specs.Update.{Taken, keep, shareLeft}
-use Rattle.fiber_choice.specs.declared.kinds.Side.{Side}
 use Rattle.fiber_choice.specs.declared.kinds.Side.the-variants as side·
-use Rattle.fiber_choice.specs.declared.kinds.Way.{Way}
 use Rattle.fiber_choice.specs.declared.kinds.Way.the-variants as way·
 use Rattle.fiber_choice.specs.declared.kinds.Choice.{Choice}
 use Rattle.fiber_choice.specs.declared.kinds.Choice.the-variants as choice·
@@ -74,21 +71,8 @@ unfoldable pub recordSize : ℕ → Choice → ℕ
 recordSize h (choice·.Share side) = 0
 recordSize h (choice·.Tlc place way) = recordLen h
 
--- the answer, and the output as it leaves it
-pub record ChoiceOutcome : Type 0 where
-  pub answer : ChoiceAnswer
-  pub bytes : List ℕ
-
--- an answer and an output that are those of an outcome
-abbrev pub Gives : ChoiceOutcome → ChoiceAnswer → List ℕ → Type 0
-Gives o answer out = (answer ≡ o .answer) × (out ≡ o .bytes)
-
--- a wait or a refusal: the output is as it was
-abbrev pub unwritten : ChoiceAnswer → List ℕ → ChoiceOutcome
-unwritten answer out = record { answer = answer; bytes = out }
-
 -- the unlock, the state before it and the new args, joined: 13 at their length where they have no room
-unfoldable pub handedOut : ℕ → List ℕ → List (List ℕ) → List (List ℕ) → Picked → List ℕ → ChoiceOutcome
+unfoldable pub handedOut : ℕ → List ℕ → List (List ℕ) → List (List ℕ) → Picked → List ℕ → Outcome ChoiceAnswer
 handedOut h args tracked ps p out =
     let tlcs = trackedRecords tracked in
     let unlock = unlockOf ps (p .choice) in
@@ -102,9 +86,9 @@ handedOut h args tracked ps p out =
         amount = choiceAmount tlcs (p .remote) (p .local) (p .choice);
         key = p .key;
         delay = p .delay;
-        unlock = length unlock;
-        state = length before;
-        args = length new;
+        «unlock_len» = length unlock;
+        «state_len» = length before;
+        «args_len» = length new;
         place = p .place;
         len = recordSize h (p .choice);
       });

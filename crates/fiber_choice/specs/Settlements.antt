@@ -20,27 +20,29 @@ use Rattle.fiber_choice.specs.declared.kinds.Ready.{Ready}
 use Rattle.fiber_choice.specs.declared.kinds.Ready.the-variants as ready·
 use Rattle.fiber_choice.specs.declared.kinds.Step.{Step}
 use Rattle.fiber_choice.specs.declared.kinds.Step.the-variants as step·
+use Rattle.fiber_choice.specs.declared.kinds.ChoiceAnswer.{ChoiceAnswer}
 use Rattle.fiber_choice.specs.declared.kinds.ChoiceAnswer.the-variants as answer·
 use Rattle.fiber_witness.specs.Witness.{recordLen, member}
-use Rattle.fiber_witness.specs.Update.{Taken, shareLeft, standing, Unlocked, fine, faulty, unlocked}
+use Rattle.fiber_witness.specs.Update.{shareLeft, standing, Unlocked, fine, faulty, unlocked}
 use Rattle.fiber_choice.specs.Entries.{same, sameLists, trackedLen, trackedRecords}
 use Rattle.fiber_choice.specs.Request.{Request, settlementTlcs, trackedTlcs, pairs}
 use Rattle.fiber_choice.specs.FirstRecords.{hashOf, firstRecords, firstRemote, firstLocal}
 use Rattle.fiber_choice.specs.Walk.{ourShare}
 use Rattle.fiber_choice.specs.Verdicts.{duesBy, walked}
-use Rattle.fiber_choice.specs.HandedOut.{Picked, ChoiceOutcome, unwritten, handedOut}
+use Rattle.fiber_types.specs.Records.{Outcome, unwritten}
+use Rattle.fiber_choice.specs.HandedOut.{Picked, handedOut}
 
 -- the walk of a request's TLCs
 abbrev pub walkedBy : Request → Stage → Step
 walkedBy q stage = walked (q .h) (q .forRemote) (q .time) (settlementTlcs q) (pairs q) stage (trackedTlcs q)
 
 -- what is chosen is handed out; 22 where nothing is
-unfoldable pub handStep : Request → (Choice → Key → Picked) → List ℕ → Step → ChoiceOutcome
+unfoldable pub handStep : Request → (Choice → Key → Picked) → List ℕ → Step → Outcome ChoiceAnswer
 handStep q picked out (step·.Chosen choice key) = handedOut (q .h) (q .args) (trackedTlcs q) (pairs q) (picked choice key) out
 handStep q picked out (step·.Pending pending) = unwritten (answer·.Wait 22 0) out
 
 -- before the walk: a row, or what the walk comes to
-unfoldable pub ifReady : Ready → List ℕ → ChoiceOutcome → ChoiceOutcome
+unfoldable pub ifReady : Ready → List ℕ → Outcome ChoiceAnswer → Outcome ChoiceAnswer
 ifReady ready·.Yes out o = o
 ifReady (ready·.Wait number) out o = unwritten (answer·.Wait number 0) out
 ifReady (ready·.Refused number) out o = unwritten (answer·.Refused number 0) out
@@ -78,19 +80,20 @@ laterPicked h firsts remote local choice key =
     record { remote = remote; local = local; choice = choice; key = key; delay = delay·.None; place = laterPlace h firsts choice }
 
 -- of a state with these TLCs and shares, the TLCs being those at first places of the witness
-unfoldable pub laterState : Request → List ℕ → List (List ℕ) → List ℕ → List ℕ → List ℕ → ChoiceOutcome
+unfoldable pub laterState : Request → List ℕ → List (List ℕ) → List ℕ → List ℕ → List ℕ → Outcome ChoiceAnswer
 laterState q out tlcs firsts remote local =
     let ours = cond (q .forRemote) local remote in
     let other = cond (q .forRemote) remote local in
     ifReady (laterReady q tlcs ours) out (handStep q (laterPicked (q .h) firsts remote local) out (laterChoice q other))
 
 -- a witness is given; update first
-unfoldable pub laterOf : Request → List ℕ → List ℕ → Unlocked → ChoiceOutcome
+unfoldable pub laterOf : Request → List ℕ → List ℕ → Unlocked → Outcome ChoiceAnswer
 laterOf q w out (fine n share t) =
-    laterState q out (standing (q .h) w n (t .settled)) (unsettled (t .settled) 0 n) (shareLeft (t .remote) (part w share 36)) (shareLeft (t .local) (part w (share + 36) 36))
+    laterState q out (standing (q .h) w n (t .settled)) (unsettled (t .settled) 0 n)
+    (shareLeft (t .remote) (part w share 36)) (shareLeft (t .local) (part w (share + 36) 36))
 laterOf q w out (faulty number place) = unwritten (answer·.Refused number place) out
 
-unfoldable pub later : Request → List ℕ → List ℕ → ChoiceOutcome
+unfoldable pub later : Request → List ℕ → List ℕ → Outcome ChoiceAnswer
 later q w out = laterOf q w out (unlocked (q .h) w)
 
 -- ---- first settlement
@@ -116,12 +119,11 @@ firstPicked q third twoThirds full choice key = record {
   place = firstPlace (q .h) choice;
 }
 
-unfoldable pub firstThirds : Request → List ℕ → Epoch → Scaled → Scaled → ChoiceOutcome
+unfoldable pub firstThirds : Request → List ℕ → Epoch → Scaled → Scaled → Outcome ChoiceAnswer
 firstThirds q out full (scaled·.Epoch third) (scaled·.Epoch twoThirds) =
     handStep q (firstPicked q third twoThirds full) out (walkedBy q (stage·.First (duesBy (q .header) third twoThirds full (q .current))))
 firstThirds q out full (scaled·.Epoch third) (scaled·.Refused number place) = unwritten (answer·.Refused number place) out
-firstThirds q out full (scaled·.Refused number place) (scaled·.Epoch twoThirds) = unwritten (answer·.Refused number place) out
-firstThirds q out full (scaled·.Refused number place) (scaled·.Refused n p) = unwritten (answer·.Refused number place) out
+firstThirds q out full (scaled·.Refused number place) twoThirds = unwritten (answer·.Refused number place) out
 
 unfoldable pub lengthsZero : Epoch → Epoch → Epoch → Bool
 lengthsZero header current full = eqb (header .length) 0 || eqb (current .length) 0 || eqb (full .length) 0
@@ -134,5 +136,5 @@ firstReady q full =
     (cond (sameLists (firstRecords (q .h) (q .forRemote) (settlementTlcs q)) (trackedRecords (trackedTlcs q))) ready·.Yes (ready·.Wait 20))
     (ready·.Refused 12))
 
-unfoldable pub first : Request → Epoch → List ℕ → ChoiceOutcome
+unfoldable pub first : Request → Epoch → List ℕ → Outcome ChoiceAnswer
 first q full out = ifReady (firstReady q full) out (firstThirds q out full (scaled full 1 3) (scaled full 2 3))

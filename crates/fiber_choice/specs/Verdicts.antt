@@ -10,7 +10,7 @@ use Rattle.fiber_since.specs.declared.since.Expiry.{Expiry}
 use Rattle.fiber_since.specs.declared.since.Expiry.the-variants as expiry·
 use Rattle.fiber_since.specs.Since.{absoluteExpiry}
 use Rattle.fiber_since.specs.Epoch.{due}
-use Rattle.fiber_types.specs.Records.{isOffered, tlcAt, hashPlace, remotePlace, localPlace}
+use Rattle.fiber_types.specs.Records.{isOffered, tlcAt}
 use Rattle.fiber_choice.specs.declared.kinds.Found.{Found}
 use Rattle.fiber_choice.specs.declared.kinds.Found.the-variants as found·
 use Rattle.fiber_choice.specs.declared.kinds.Dues.{Dues}
@@ -36,16 +36,16 @@ findKey i (t ∷ ts) start ours =
 
 -- of a record: its hash, and our slot's key hash
 unfoldable pub keyOf : ℕ → Bool → List (List ℕ) → List ℕ → Found
-keyOf h forRemote tlcs r = findKey 0 tlcs (part r (hashPlace 0) h) (part r (cond forRemote (localPlace h 0) (remotePlace h 0)) 20)
+keyOf h forRemote tlcs r = findKey 0 tlcs (part r 17 h) (part r (cond forRemote (37 + h) (17 + h)) 20)
 
--- preimage kind, with its key
-unfoldable pub byPair : ℕ → ℕ → Found → Verdict
-byPair ms key (found·.At pair) = ready pair key
-byPair ms key found·.None = falls ms
+-- preimage kind, with its key: chosen with a counting preimage; without one, pending falls if the full delay is due and time > expiry
+unfoldable pub byPair : Bool → ℕ → ℕ → Found → Verdict
+byPair full ms key (found·.At pair) = ready pair key
+byPair full ms key found·.None = cond full (falls ms) (passed noPreimage)
 
--- without a key passed over
+-- without a key passed over; no delay is left to wait for
 unfoldable pub byKey : Bool → ℕ → Found → Found → Verdict
-byKey isTimeout ms pair (found·.At key) = cond isTimeout (timeout ms key) (byPair ms key pair)
+byKey isTimeout ms pair (found·.At key) = cond isTimeout (timeout ms key) (byPair true ms key pair)
 byKey isTimeout ms pair found·.None = passed noKey
 
 -- without an absolute timestamp expiry passed over
@@ -66,17 +66,13 @@ unfoldable pub duesBy : Epoch → Epoch → Epoch → Epoch → Epoch → Dues
 duesBy header third twoThirds full current =
     record { third = due header third current; «two_thirds» = due header twoThirds current; full = due header full current }
 
--- if 1/3 is due, chosen with a counting preimage; without one, pending falls if the full delay is due and time > expiry
-unfoldable pub firstPreimage : Bool → ℕ → ℕ → Found → Verdict
-firstPreimage full ms place (found·.At pair) = ready pair place
-firstPreimage full ms place found·.None = cond full (falls ms) (passed noPreimage)
-
--- A settlement TLC and its tracked one. The expiry is the millisecond value; the key is the TLC's own.
+-- A settlement TLC and its tracked one: 2/3 must be due for the timeout kind, 1/3 for the preimage kind. The expiry is the millisecond
+-- value; the key is the TLC's own.
 unfoldable pub firstVerdict : Bool → List (List ℕ) → Dues → ℕ → List ℕ → List ℕ → Verdict
 firstVerdict forRemote ps d place s t =
     cond (timeoutKind forRemote (eqb (received s) 0))
     (cond (d .«two_thirds») (timeout (expiryMs s) place) (passed notDue))
-    (cond (d .third) (firstPreimage (d .full) (expiryMs s) place (countingPair ps t)) (passed notDue))
+    (cond (d .third) (byPair (d .full) (expiryMs s) place (countingPair ps t)) (passed notDue))
 
 -- ---- both
 

@@ -3,7 +3,6 @@
 use Prim.Native.Nat.{ℕ, _+_, _-_}
 use mathlib.Core.Bool.{Bool, false, true, cond, _&&_}
 use mathlib.Core.List.{List, [], _∷_}
-use lib.ListN.{length}
 use lib.Dec.{eqb, ltb}
 use Rattle.fiber_choice.specs.declared.kinds.Side.{Side}
 use Rattle.fiber_choice.specs.declared.kinds.Side.the-variants as side·
@@ -70,5 +69,4 @@ walk time place pending (v ∷ vs) = onward (stepOf time place pending v) (λ p.
 
 -- none chosen and pending 0: our share, where it may be taken
 unfoldable pub orShare : Bool → Bool → Step → Step
-orShare forRemote may (step·.Pending pending) = cond (eqb pending 0 && may) (ourShare forRemote) (step·.Pending pending)
-orShare forRemote may (step·.Chosen choice key) = step·.Chosen choice key
+orShare forRemote may s = onward s (λ pending. cond (eqb pending 0 && may) (ourShare forRemote) (step·.Pending pending))

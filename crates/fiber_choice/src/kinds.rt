@@ -98,9 +98,9 @@ pub struct Decision {
     pub amount: Amount,
     pub key: Key,
     pub delay: Delay,
-    pub unlock: usize,
-    pub state: usize,
-    pub args: usize,
+    pub unlock_len: usize,
+    pub state_len: usize,
+    pub args_len: usize,
     pub place: usize,
     pub len: usize,
 }

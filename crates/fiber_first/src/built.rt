@@ -15,7 +15,7 @@ use fiber_types::tlc::TLC_FIXED;
 use fiber_types::tlc::Tlc;
 use fiber_types::tlc::amount_at;
 ghost use mathlib.Core.Path.{_≡_};
-ghost use mathlib.Core.Bool.{true};
+ghost use mathlib.Core.Bool.{true, cond};
 ghost use Prim.Native.Nat.{_+_, _≤_};
 ghost use lib.ListN.{length};
 ghost use lib.Seq.{sets};
@@ -49,7 +49,8 @@ pub fn put_first(h: usize, for_remote: bool, tlc: &[u8], out: &mut [u8])
 // Whether the records of the settlement TLCs are those of the tracked list, one for one.
 pub fn same_as_tracked(h: usize, for_remote: bool, tlcs: &[u8], tracked: &[u8]) -> bool
     requires { ⌜ (validHashLen h ≡ true) × (all validSettlement (entries settlementLen (now tlcs)) ≡ true) ⌝ }
-    ensures { λ r. ⌜ r ≡ sameLists (S.firstRecords h «for_remote» (entries settlementLen (now (tlcs .entry)))) (trackedRecords (entries (trackedLen h) (now (tracked .entry)))) ⌝ }
+    ensures { λ r. ⌜ r ≡ sameLists (S.firstRecords h «for_remote» (entries settlementLen (now (tlcs .entry))))
+        (trackedRecords (entries (trackedLen h) (now (tracked .entry)))) ⌝ }
 {
     let size = TRACKED_FIXED + h;
     let n = tlcs.len() / SETTLEMENT_TLC;
@@ -79,7 +80,7 @@ pub fn same_as_tracked(h: usize, for_remote: bool, tlcs: &[u8], tracked: &[u8]) 
 }
 
 // A share: key hash 20, amount 16.
-pub fn share_of(key: &[u8], amount: Amount) -> [u8; 36]
+fn share_of(key: &[u8], amount: Amount) -> [u8; 36]
     ensures { λ r. ⌜ r ≡ S.shareBytes (now (key .entry)) amount ⌝ }
 {
     let hash = key_hash(key);
@@ -89,6 +90,23 @@ pub fn share_of(key: &[u8], amount: Amount) -> [u8; 36]
     put_le64(&mut share, 20, amount.low);
     put_le64(&mut share, 28, amount.high);
     share
+}
+
+// The share of one side, or that of the other: which of them stands first depends on for_remote.
+pub fn share_by(
+    one: bool,
+    key: &[u8],
+    amount: Amount,
+    other_key: &[u8],
+    other_amount: Amount,
+) -> [u8; 36]
+    ensures { λ r. ⌜ r ≡ cond one (S.shareBytes (now (key .entry)) amount) (S.shareBytes (now («other_key» .entry)) «other_amount») ⌝ }
+{
+    if one {
+        share_of(key, amount)
+    } else {
+        share_of(other_key, other_amount)
+    }
 }
 
 // Writes the records of n settlement TLCs from byte 1 on, each straight into the part of the output where it belongs.

@@ -3,8 +3,7 @@ use fiber_choice::kinds::SETTLEMENT_TLC;
 use fiber_choice::kinds::TRACKED_FIXED;
 use fiber_types::key::PUBLIC_KEY;
 ghost use mathlib.Core.Path.{_≡_};
-ghost use Prim.Native.Nat.{_+_, _*_, _≤_};
-ghost use lib.ListN.{length};
+ghost use Prim.Native.Nat.{_+_, _≤_};
 ghost use Rattle.fiber_choice.specs.Entries as S;
 ghost use Rattle.fiber_choice.specs.Request.{validData};
 ghost use Rattle.fiber_types.specs.declared.tlc.Amount.{Amount};
@@ -61,7 +60,13 @@ pub fn valid_tracked(h: usize, tracked: &[u8]) -> bool
 
 // The settlement TLCs and the two settlement keys.
 pub fn valid_data(tlcs: &[u8], local_key: &[u8], remote_key: &[u8]) -> bool
-    ensures { λ r. ⌜ ((a b : Amount) → r ≡ validData (record { tlcs = now (tlcs .entry); localAmount = a; remoteAmount = b; localKey = now («local_key» .entry); remoteKey = now («remote_key» .entry) })) ⌝ }
+    ensures { λ r. ⌜ ((a b : Amount) → r ≡ validData (record {
+      tlcs = now (tlcs .entry);
+      localAmount = a;
+      remoteAmount = b;
+      localKey = now («local_key» .entry);
+      remoteKey = now («remote_key» .entry);
+    })) ⌝ }
 {
     if tlcs.len() % SETTLEMENT_TLC != 0 {
         return false;

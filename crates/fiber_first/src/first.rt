@@ -1,7 +1,7 @@
 // First records: the state that a commitment starts with, written from what the host lends.
 use crate::built::put_first;
 use crate::built::put_first_tlcs;
-use crate::built::share_of;
+use crate::built::share_by;
 use crate::entries::valid_data;
 use crate::entries::valid_settlements;
 use fiber_bytes::put;
@@ -11,13 +11,14 @@ use fiber_types::tlc::Amount;
 use fiber_types::tlc::TLC_FIXED;
 use fiber_types::tlc::valid_hash_len;
 use fiber_witness::witness::SHARE;
-ghost use mathlib.Core.Path.{_≡_};
+use fiber_witness::witness::SHARES;
+use fiber_witness::witness::STATE_FIXED;
+ghost use Rattle.fiber_types.specs.Records.{Gives};
 ghost use Rattle.fiber_choice.specs.FirstRecords as S;
 
 // Writes the record of one settlement TLC to the front of out, which may be a part of a longer output.
 pub fn settlement_tlc_witness(h: usize, for_remote: bool, tlc: &[u8], out: &mut [u8]) -> Written
-    ensures { λ r. ⌜ r ≡ S.wroteFirstTlc h «for_remote» (now (tlc .entry)) (now (out .entry)) .answer ⌝ }
-    ensures { λ _. ⌜ now (out .exit) ≡ S.wroteFirstTlc h «for_remote» (now (tlc .entry)) (now (out .entry)) .bytes ⌝ }
+    ensures { λ r. ⌜ Gives (S.wroteFirstTlc h «for_remote» (now (tlc .entry)) (now (out .entry))) r (now (out .exit)) ⌝ }
 {
     if !valid_hash_len(h) {
         return Written::Refused {
@@ -59,8 +60,14 @@ pub fn settlement_data_witness(
     remote_key: &[u8],
     out: &mut [u8],
 ) -> Written
-    ensures { λ r. ⌜ r ≡ S.wroteFirst h «for_remote» (record { tlcs = now (tlcs .entry); localAmount = «local_amount»; remoteAmount = «remote_amount»; localKey = now («local_key» .entry); remoteKey = now («remote_key» .entry) }) (now (out .entry)) .answer ⌝ }
-    ensures { λ _. ⌜ now (out .exit) ≡ S.wroteFirst h «for_remote» (record { tlcs = now (tlcs .entry); localAmount = «local_amount»; remoteAmount = «remote_amount»; localKey = now («local_key» .entry); remoteKey = now («remote_key» .entry) }) (now (out .entry)) .bytes ⌝ }
+    ensures { λ r. ⌜ Gives (S.wroteFirst h «for_remote» (record {
+      tlcs = now (tlcs .entry);
+      localAmount = «local_amount»;
+      remoteAmount = «remote_amount»;
+      localKey = now («local_key» .entry);
+      remoteKey = now («remote_key» .entry);
+    }) (now (out
+        .entry))) r (now (out .exit)) ⌝ }
 {
     if !valid_hash_len(h) {
         return Written::Refused {
@@ -81,23 +88,30 @@ pub fn settlement_data_witness(
             place: 0,
         };
     }
-    let size = 73 + n * (TLC_FIXED + h);
+    let size = STATE_FIXED + n * (TLC_FIXED + h);
     if out.len() < size {
         return Written::Refused {
             number: 13,
             place: size,
         };
     }
-    let local = share_of(local_key, local_amount);
-    let remote = share_of(remote_key, remote_amount);
+    let remote = share_by(
+        for_remote,
+        remote_key,
+        remote_amount,
+        local_key,
+        local_amount,
+    );
+    let local = share_by(
+        for_remote,
+        local_key,
+        local_amount,
+        remote_key,
+        remote_amount,
+    );
     out[0] = n as u8;
     put_first_tlcs(h, for_remote, tlcs, out);
-    if for_remote {
-        put(out, size - 72, &remote);
-        put(out, size - SHARE, &local);
-    } else {
-        put(out, size - 72, &local);
-        put(out, size - SHARE, &remote);
-    }
+    put(out, size - SHARES, &remote);
+    put(out, size - SHARE, &local);
     Written::Bytes(size)
 }

@@ -13,8 +13,10 @@ use fiber_choice::kinds::TRACKED_FIXED;
 use fiber_choice::kinds::TRACKED_RECORD;
 use fiber_choice::kinds::Way;
 use fiber_types::blake2b::ckb_hash;
+use fiber_types::tlc;
 use fiber_types::tlc::Amount;
 use fiber_types::tlc::TLC_FIXED;
+use fiber_types::tlc::TlcRead;
 use fiber_types::tlc::amount_at;
 use fiber_types::unlock;
 use fiber_types::unlock::UNLOCK;
@@ -23,14 +25,16 @@ use fiber_types::unlock::Unlock;
 use fiber_witness::state::one_mark;
 use fiber_witness::state::put_state;
 use fiber_witness::unlocks::no_marks;
+use fiber_witness::witness::STATE_FIXED;
 ghost use mathlib.Core.Path.{_≡_};
-ghost use mathlib.Core.List.{List, [], _∷_, _++_};
-ghost use mathlib.Core.Bool.{false};
+ghost use mathlib.Core.List.{[], _∷_, _++_};
+ghost use mathlib.Core.Bool.{true, false};
 ghost use mathlib.Core.Logic.{_⊎_};
-ghost use Prim.Native.Nat.{ℕ, _+_, _-_, _*_, _≤_, _<_};
+ghost use Prim.Native.Nat.{_+_, _-_, _*_, _≤_, _<_};
 ghost use lib.ListN.{length, take, drop};
 ghost use lib.Seq.{sets};
 ghost use Rattle.fiber_blake2b.specs.Blake2b.{ckbHash};
+ghost use Rattle.fiber_types.specs.Records.{Gives, validHashLen};
 ghost use Rattle.fiber_witness.specs.Witness.{flat};
 ghost use Rattle.fiber_choice.specs.Entries.{entries, trackedLen, trackedRecords, pairLen};
 ghost use Rattle.fiber_choice.specs.HandedOut as S;
@@ -93,7 +97,8 @@ fn hash_after(
     requires { ⌜ (length (entries (trackedLen h) (now tracked)) ≤ 254) × (p .skip ≤ 255) ⌝ }
     requires { ⌜ 73 + length (flat (trackedRecords (entries (trackedLen h) (now tracked)))) ≤ length (now out) ⌝ }
     ensures { λ r. ⌜ r ≡ ckbHash (planAfter (trackedRecords (entries (trackedLen h) (now (tracked .entry)))) (now (remote .entry)) (now (local .entry)) p) ⌝ }
-    ensures { λ _. ⌜ now (out .exit) ≡ sets (now (out .entry)) 0 (planAfter (trackedRecords (entries (trackedLen h) (now (tracked .entry)))) (now (remote .entry)) (now (local .entry)) p) ⌝ }
+    ensures { λ _. ⌜ now (out .exit) ≡ sets (now (out .entry)) 0
+        (planAfter (trackedRecords (entries (trackedLen h) (now (tracked .entry)))) (now (remote .entry)) (now (local .entry)) p) ⌝ }
 {
     let n = tracked.len() / (TRACKED_FIXED + h);
     let count = if p.skip < n { n - 1 } else { n };
@@ -142,7 +147,8 @@ fn put_unlock(preimages: &[u8], p: Plan, out: &mut [u8])
 fn put_args(args: &[u8], hash: &[u8], out: &mut [u8], at: usize)
     requires { ⌜ (36 ≤ length (now args)) × (length (now hash) ≡ 32) ⌝ }
     requires { ⌜ (at + 57 ≤ length (now out)) × (at + length (now args) ≤ length (now out)) ⌝ }
-    ensures { λ _. ⌜ now (out .exit) ≡ sets (now (out .entry)) at (take 36 (now (args .entry)) ++ take 20 (now (hash .entry)) ++ (1 ∷ []) ++ drop 57 (now (args .entry))) ⌝ }
+    ensures { λ _. ⌜ now (out .exit) ≡ sets (now (out .entry)) at
+        (take 36 (now (args .entry)) ++ take 20 (now (hash .entry)) ++ (1 ∷ []) ++ drop 57 (now (args .entry))) ⌝ }
 {
     put(out, at, part_of(args, 0, 36));
     put(out, at + 36, part_of(hash, 0, 20));
@@ -164,8 +170,12 @@ fn put_joined(
     requires { ⌜ (h ≤ 32) × ((length (now remote) ≡ 36) × (length (now local) ≡ 36)) ⌝ }
     requires { ⌜ (length (entries (trackedLen h) (now tracked)) ≤ 254) × ((36 ≤ length (now args)) × (p .byte ≤ 255)) ⌝ }
     requires { ⌜ ((64 * (p .pair) + 64 ≤ length (now preimages)) ⊎ (p .flag ≡ false)) × (p .skip ≤ 255) ⌝ }
-    requires { ⌜ length (joined (now args) (entries (trackedLen h) (now tracked)) (entries pairLen (now preimages)) (now remote) (now local) p) ≤ length (now out) ⌝ }
-    ensures { λ _. ⌜ now (out .exit) ≡ sets (now (out .entry)) 0 (joined (now (args .entry)) (entries (trackedLen h) (now (tracked .entry))) (entries pairLen (now (preimages .entry))) (now (remote .entry)) (now (local .entry)) p) ⌝ }
+    requires { ⌜ length
+        (joined (now args) (entries (trackedLen h) (now tracked)) (entries pairLen (now preimages)) (now remote) (now local) p) ≤
+        length (now out) ⌝ }
+    ensures { λ _. ⌜ now (out .exit) ≡ sets (now (out .entry)) 0 (joined (now (args .entry))
+        (entries (trackedLen h) (now (tracked .entry))) (entries pairLen (now (preimages .entry))) (now (remote .entry))
+        (now (local .entry)) p) ⌝ }
 {
     let n = tracked.len() / (TRACKED_FIXED + h);
     let at = if p.flag { UNLOCK_WITH_PREIMAGE } else { UNLOCK };
@@ -189,9 +199,9 @@ fn put_joined(
     put_args(args, &hash, out, at + size);
 }
 
-// The amount of a share, or of the TLC at a place.
+// The amount of a share, or of the TLC at a place. Its record is whole, so that its reader never turns it down.
 fn amount_of(h: usize, tracked: &[u8], remote: &[u8], local: &[u8], choice: Choice) -> Amount
-    requires { ⌜ (h ≤ 32) × ((length (now remote) ≡ 36) × (length (now local) ≡ 36)) ⌝ }
+    requires { ⌜ (validHashLen h ≡ true) × ((length (now remote) ≡ 36) × (length (now local) ≡ 36)) ⌝ }
     requires { ⌜ Below (length (entries (trackedLen h) (now tracked))) choice ⌝ }
     ensures { λ r. ⌜ r ≡ S.choiceAmount (trackedRecords (entries (trackedLen h) (now (tracked .entry)))) (now (remote .entry)) (now (local .entry)) choice ⌝ }
 {
@@ -200,7 +210,15 @@ fn amount_of(h: usize, tracked: &[u8], remote: &[u8], local: &[u8], choice: Choi
             Side::Remote => amount_at(remote, 20),
             Side::Local => amount_at(local, 20),
         },
-        Choice::Tlc { place, way: _ } => amount_at(tracked, place * (TRACKED_FIXED + h) + 34),
+        Choice::Tlc { place, way: _ } => {
+            match tlc::read(h, tracked, place * (TRACKED_FIXED + h) + TRACKED_RECORD) {
+                TlcRead::Record(record) => record.amount,
+                TlcRead::Refused {
+                    number: _,
+                    place: _,
+                } => Amount { low: 0, high: 0 },
+            }
+        }
     }
 }
 
@@ -229,14 +247,17 @@ pub fn write_output(
     place: usize,
     out: &mut [u8],
 ) -> ChoiceAnswer
-    requires { ⌜ (h ≤ 32) × ((length (entries (trackedLen h) (now tracked)) ≤ 254) × (36 ≤ length (now args))) ⌝ }
+    requires { ⌜ (validHashLen h ≡ true) × ((length (entries (trackedLen h) (now tracked)) ≤ 254) × (36 ≤ length (now args))) ⌝ }
     requires { ⌜ Within (length (entries (trackedLen h) (now tracked))) (length (entries pairLen (now preimages))) choice ⌝ }
-    ensures { λ r. ⌜ S.Gives (S.handedOut h (now (args .entry)) (entries (trackedLen h) (now (tracked .entry))) (entries pairLen (now (preimages .entry))) (record { remote = remote; local = local; choice = choice; key = key; delay = delay; place = place }) (now (out .entry))) r (now (out .exit)) ⌝ }
+    ensures { λ r. ⌜ Gives
+        (S.handedOut h (now (args .entry)) (entries (trackedLen h) (now (tracked .entry))) (entries pairLen (now (preimages .entry)))
+        (record { remote = remote; local = local; choice = choice; key = key; delay = delay; place = place }) (now (out .entry)))
+        r (now (out .exit)) ⌝ }
 {
     let n = tracked.len() / (TRACKED_FIXED + h);
     let p = plan_of(choice, n);
     let unlock = if p.flag { UNLOCK_WITH_PREIMAGE } else { UNLOCK };
-    let state = 73 + n * (TLC_FIXED + h);
+    let state = STATE_FIXED + n * (TLC_FIXED + h);
     let new = if args.len() < 57 { 57 } else { args.len() };
     let size = unlock + state + new;
     if out.len() < size {
@@ -252,9 +273,9 @@ pub fn write_output(
         amount,
         key,
         delay,
-        unlock,
-        state,
-        args: new,
+        unlock_len: unlock,
+        state_len: state,
+        args_len: new,
         place,
         len: record_size(h, choice),
     })

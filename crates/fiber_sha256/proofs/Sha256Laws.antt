@@ -10,7 +10,7 @@ use lib.ListN.{length, getD, set, take, drop, replicate, length-append, length-d
 use lib.Seq.{sets, length-sets, drop-cons, drop-drop, drop-append-le, take-append-le, take-take, take-all, append-snoc, set-at, getD-set-other, length-take-le}
 use lib.Pow.{mod-pow-add}
 use Rattle.fiber_bytes.specs.Bytes.{part, be, beBytes}
-use Rattle.fiber_sha256.specs.Sha256.{constants, ch, maj, sum0, sum1, sig0, sig1, padded, loaded, extended, first, second, turned, turns, folded, compressed, absorbed, wordsBytes, sha256}
+use Rattle.fiber_sha256.specs.Sha256.{constants, ch, maj, sum0, sum1, sig0, sig1, padded, loaded, extended, t1, t2, turned, turns, folded, compressed, absorbed, wordsBytes, sha256}
 
 pub add4-by : (a b c d p q r : ℕ) → p ≡ (a + b) % 2 ^ 32 → q ≡ (p + c) % 2 ^ 32 → r ≡ (q + d) % 2 ^ 32 → r ≡ (a + b + c + d) % 2 ^ 32
 add4-by a b c d p q r e f g =
@@ -20,17 +20,17 @@ add4-by a b c d p q r e f g =
     add-by : (m d q r : ℕ) → q ≡ m % 2 ^ 32 → r ≡ (q + d) % 2 ^ 32 → r ≡ (m + d) % 2 ^ 32
     add-by m d q r e f = omega arith
 
-pub first-by : (v : List ℕ) (k w p b c r : ℕ) → b ≡ sum1 (getD v 4 0) → c ≡ ch (getD v 4 0) (getD v 5 0) (getD v 6 0) → p ≡ (getD v 7 0 + b + c + k) % 2 ^ 32 → r ≡ (p + w) % 2 ^ 32 → r ≡ first v k w
-unfolding first
-first-by v k w p b c r e f g h =
+pub t1-by : (v : List ℕ) (k w p b c r : ℕ) → b ≡ sum1 (getD v 4 0) → c ≡ ch (getD v 4 0) (getD v 5 0) (getD v 6 0) → p ≡ (getD v 7 0 + b + c + k) % 2 ^ 32 → r ≡ (p + w) % 2 ^ 32 → r ≡ t1 v k w
+unfolding t1
+t1-by v k w p b c r e f g h =
     let d : r ≡ (getD v 7 0 + b + c + k + w) % 2 ^ 32 = omega (arith, g, h) in
     rw (e, f) at d
 
-pub second-by : (v : List ℕ) (a b r : ℕ) → a ≡ sum0 (getD v 0 0) → b ≡ maj (getD v 0 0) (getD v 1 0) (getD v 2 0) → r ≡ (a + b) % 2 ^ 32 → r ≡ second v
-unfolding second
-second-by v a b r e f g = cc
+pub t2-by : (v : List ℕ) (a b r : ℕ) → a ≡ sum0 (getD v 0 0) → b ≡ maj (getD v 0 0) (getD v 1 0) (getD v 2 0) → r ≡ (a + b) % 2 ^ 32 → r ≡ t2 v
+unfolding t2
+t2-by v a b r e f g = cc
 
-pub turned-by : (k w v : List ℕ) (i a b x y : ℕ) → k ≡ constants → a ≡ first v (getD k i 0) (getD w i 0) → b ≡ second v → x ≡ (a + b) % 2 ^ 32 → y ≡ (getD v 3 0 + a) % 2 ^ 32
+pub turned-by : (k w v : List ℕ) (i a b x y : ℕ) → k ≡ constants → a ≡ t1 v (getD k i 0) (getD w i 0) → b ≡ t2 v → x ≡ (a + b) % 2 ^ 32 → y ≡ (getD v 3 0 + a) % 2 ^ 32
     → x ∷ getD v 0 0 ∷ getD v 1 0 ∷ getD v 2 0 ∷ y ∷ getD v 4 0 ∷ getD v 5 0 ∷ getD v 6 0 ∷ [] ≡ turned v (getD constants i 0) (getD w i 0)
 unfolding turned
 turned-by k w v i a b x y d e f g h = cc

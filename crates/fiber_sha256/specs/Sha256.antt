@@ -58,16 +58,16 @@ extended (suc n) w =
     ((sig1 (getD (extended n w) (n + 14) 0) + getD (extended n w) (n + 9) 0 + sig0 (getD (extended n w) (n + 1) 0) + getD (extended n w) n 0) % 2 ^ 32)
 
 -- step 3: T1 and T2, and one turn of the working variables a, .., h
-unfoldable pub first : List ℕ → ℕ → ℕ → ℕ
-first v k w = (getD v 7 0 + sum1 (getD v 4 0) + ch (getD v 4 0) (getD v 5 0) (getD v 6 0) + k + w) % 2 ^ 32
+unfoldable pub t1 : List ℕ → ℕ → ℕ → ℕ
+t1 v k w = (getD v 7 0 + sum1 (getD v 4 0) + ch (getD v 4 0) (getD v 5 0) (getD v 6 0) + k + w) % 2 ^ 32
 
-unfoldable pub second : List ℕ → ℕ
-second v = (sum0 (getD v 0 0) + maj (getD v 0 0) (getD v 1 0) (getD v 2 0)) % 2 ^ 32
+unfoldable pub t2 : List ℕ → ℕ
+t2 v = (sum0 (getD v 0 0) + maj (getD v 0 0) (getD v 1 0) (getD v 2 0)) % 2 ^ 32
 
 unfoldable pub turned : List ℕ → ℕ → ℕ → List ℕ
 turned v k w =
-    (first v k w + second v) % 2 ^ 32 ∷ getD v 0 0 ∷ getD v 1 0 ∷ getD v 2 0
-    ∷ (getD v 3 0 + first v k w) % 2 ^ 32 ∷ getD v 4 0 ∷ getD v 5 0 ∷ getD v 6 0 ∷ []
+    (t1 v k w + t2 v) % 2 ^ 32 ∷ getD v 0 0 ∷ getD v 1 0 ∷ getD v 2 0
+    ∷ (getD v 3 0 + t1 v k w) % 2 ^ 32 ∷ getD v 4 0 ∷ getD v 5 0 ∷ getD v 6 0 ∷ []
 
 unfoldable pub turns : ℕ → List ℕ → List ℕ → List ℕ
 turns zero v w = v

@@ -1,7 +1,7 @@
 // SHA-256 (FIPS 180-4), proved equal to the definition in specs/Sha256.antt.
 ghost use mathlib.Core.Path.{_≡_};
-ghost use mathlib.Core.List.{List, _++_};
-ghost use Prim.Native.Nat.{ℕ, _+_, _-_, _*_, _/_, _%_, _^_, _≤_, _<_};
+ghost use mathlib.Core.List.{_++_};
+ghost use Prim.Native.Nat.{_+_, _-_, _*_, _/_, _%_, _^_, _≤_, _<_};
 ghost use lib.ListN.{length, getD, drop, replicate};
 ghost use lib.Seq.{sets};
 ghost use Rattle.fiber_bytes.specs.Words.{rotated};
@@ -138,14 +138,14 @@ fn add4(a: u32, b: u32, c: u32, d: u32) -> u32
 }
 
 // 6.2.2, step 3: T1, T2, and turn i of the working variables.
-fn first(v: [u32; 8], k: u32, w: u32) -> u32
-    ensures { λ r. ⌜ r ≡ S.first v k w ⌝ }
+fn t1(v: [u32; 8], k: u32, w: u32) -> u32
+    ensures { λ r. ⌜ r ≡ S.t1 v k w ⌝ }
 {
     wrapping_add_u32(add4(v[7], sum1(v[4]), ch(v[4], v[5], v[6]), k), w)
 }
 
-fn second(v: [u32; 8]) -> u32
-    ensures { λ r. ⌜ r ≡ S.second v ⌝ }
+fn t2(v: [u32; 8]) -> u32
+    ensures { λ r. ⌜ r ≡ S.t2 v ⌝ }
 {
     wrapping_add_u32(sum0(v[0]), maj(v[0], v[1], v[2]))
 }
@@ -154,8 +154,8 @@ fn turn(v: [u32; 8], k: &[u32; 64], w: &[u32; 64], i: usize) -> [u32; 8]
     requires { ⌜ (i < 64) × (now k ≡ S.constants) ⌝ }
     ensures { λ r. ⌜ r ≡ S.turned v (getD S.constants i 0) (getD (now (w .entry)) i 0) ⌝ }
 {
-    let a = first(v, k[i], w[i]);
-    let b = second(v);
+    let a = t1(v, k[i], w[i]);
+    let b = t2(v);
     let x = wrapping_add_u32(a, b);
     let y = wrapping_add_u32(v[3], a);
     [x, v[0], v[1], v[2], y, v[4], v[5], v[6]]
@@ -317,7 +317,8 @@ fn rest(s: &[u8], at: usize) -> [u8; 128]
 
 // The padded message (5.1.1) after the whole blocks: one block or two, and zeros.
 fn tail(s: &[u8]) -> [u8; 128]
-    ensures { λ r. ⌜ r ≡ drop (length (now (s .entry)) / 64 * 64) (S.padded (now (s .entry))) ++ replicate ((119 - length (now (s .entry)) % 64) / 64 * 64) 0 ⌝ }
+    ensures { λ r. ⌜ r ≡ drop (length (now (s .entry)) / 64 * 64) (S.padded (now (s .entry))) ++ replicate
+        ((119 - length (now (s .entry)) % 64) / 64 * 64) 0 ⌝ }
 {
     let n = s.len() as u64;
     let left = s.len() % 64;

@@ -1,16 +1,12 @@
 -- The marked rows of document 01's table "Edges" that are about scaling, the due test and expiries, by computing. The list of all marked rows
 -- (watchtower/specs/Edges.antt) cites them.
-use Prim.Native.Nat.{ℕ, _+_, _^_}
+use Prim.Native.Nat.{_+_, _^_}
 use mathlib.Core.Path.{_≡_, refl}
-use Rattle.fiber_since.specs.declared.epoch.Epoch.{Epoch}
 use Rattle.fiber_since.specs.declared.epoch.Scaled.the-variants as scaled·
 use Rattle.fiber_since.specs.declared.epoch.DueTest.the-variants as due·
 use Rattle.fiber_since.specs.declared.since.Expiry.the-variants as expiry·
-use Rattle.fiber_since.specs.Epoch.{withinBits, units, factor, normalized, scaled, due, dueTest}
+use Rattle.fiber_since.specs.Epoch.{epoch, withinBits, units, factor, normalized, scaled, due, dueTest}
 use Rattle.fiber_since.specs.Since.{metricOf, since, millis, ofMetric, absoluteExpiry}
-
-abbrev epoch : ℕ → ℕ → ℕ → Epoch
-epoch number index length = record { number = number; index = index; length = length }
 
 pub one-third : scaled (epoch 1 0 601) 1 3 ≡ scaled·.Epoch (epoch 0 300 901)
 unfolding withinBits units factor normalized scaled

@@ -16,7 +16,7 @@ use Rattle.fiber_since.specs.declared.epoch.Scaled.the-variants as scale
 use Rattle.fiber_since.specs.declared.epoch.DueTest.{DueTest}
 use Rattle.fiber_since.specs.declared.epoch.DueTest.the-variants as due·
 use Rattle.fiber_since.specs.Epoch.{epochOf, withinBits, units, factor, normalized, scaled, due, dueTest}
-use Rattle.fiber_since.specs.inner.Bounds.{checkedMul, Within}
+use Rattle.fiber_since.specs.inner.Bounds.{checkedMul, Bounded}
 
 -- ---- products
 
@@ -122,7 +122,7 @@ pub record Sizes (h d n : Epoch) : Type 0 where
   pub left : (((h .index % h .length) * d .length + (d .index % d .length) * h .length) % (h .length * d .length)) * n .length < 281474976710656
   pub right : (n .index % n .length) * (h .length * d .length) < 281474976710656
 
-module _ {h d n : Epoch} (w : (Within h) × ((Within d) × (Within n))) where
+module _ {h d n : Epoch} (w : (Bounded h) × ((Bounded d) × (Bounded n))) where
   pub sizes : Sizes h d n
   sizes =
       let f = (h .index % h .length) * d .length in
@@ -206,7 +206,7 @@ unfolding withinBits
 bits-length e h g = rw (lt-ltb (e .number) (2 ^ 24) h, lt-ltb (e .index) (2 ^ 16) g)
 
 -- an epoch within its bits, with some length, can be compared
-pub within : (e : Epoch) → withinBits e ≡ true → (e .length ≡ 0 → ⊥) → Within e
+pub within : (e : Epoch) → withinBits e ≡ true → (e .length ≡ 0 → ⊥) → Bounded e
 within e h z =
     let b = bits e h in
     record { number = b .number; index = b .index; length = b .length; some = omega arith }
@@ -316,7 +316,7 @@ factor-size d h = go (ltb 1800 d) refl
 pub record Fraction (x : Scaled) : Type 0 where
   pub epoch : Epoch
   pub told : x ≡ scaled·.Epoch epoch
-  pub within : Within epoch
+  pub within : Bounded epoch
 
 -- a fraction whose whole part has 24 bits
 normalized-within : (n d : ℕ) → 0 < d → n < 16777216 * d → Fraction (normalized n d)
@@ -336,11 +336,11 @@ normalized-within n d p h =
     }
 
 -- within its bits
-bits-of : (e : Epoch) → Within e → withinBits e ≡ true
+bits-of : (e : Epoch) → Bounded e → withinBits e ≡ true
 bits-of e w = sym (bits-length e (w .number) (w .index)) ∙ lt-ltb (e .length) (2 ^ 16) (w .length)
 
 -- no third of a delay that can be compared is turned down, and it can be compared too
-pub thirds-within : (e : Epoch) (k : ℕ) → k ≤ 2 → Within e → Fraction (scaled e k 3)
+pub thirds-within : (e : Epoch) (k : ℕ) → k ≤ 2 → Bounded e → Fraction (scaled e k 3)
 unfolding scaled units
 thirds-within e k h w =
     let a : e .number * e .length ≤ 16777215 * e .length = mul-le-mul-right (e .length) (omega (arith, w .number)) in
@@ -352,14 +352,14 @@ thirds-within e k h w =
     (normalized-within (k * (e .number * e .length + e .index)) (3 * e .length) (omega arith) (omega arith))
 
 -- so what the code has as a third can be compared
-pub third-within : (e : Epoch) (k : ℕ) → k ≤ 2 → Within e → (x : Scaled) (third : Epoch) → x ≡ scaled e k 3 → x ≡ scaled·.Epoch third → Within third
-third-within e k h w x third f g = let z = thirds-within e k h w in subst Within (inside (z .epoch) third (sym (z .told) ∙ sym f ∙ g)) (z .within)
+pub third-within : (e : Epoch) (k : ℕ) → k ≤ 2 → Bounded e → (x : Scaled) (third : Epoch) → x ≡ scaled e k 3 → x ≡ scaled·.Epoch third → Bounded third
+third-within e k h w x third f g = let z = thirds-within e k h w in subst Bounded (inside (z .epoch) third (sym (z .told) ∙ sym f ∙ g)) (z .within)
   where
     inside : (a b : Epoch) → scaled·.Epoch a ≡ scaled·.Epoch b → a ≡ b
     inside a b e = cc
 
 -- and it has one
-pub third-refused : (e : Epoch) (k : ℕ) → k ≤ 2 → Within e → (x : Scaled) (number place : ℕ) → x ≡ scaled e k 3 → x ≡ scaled·.Refused number place → ⊥
+pub third-refused : (e : Epoch) (k : ℕ) → k ≤ 2 → Bounded e → (x : Scaled) (number place : ℕ) → x ≡ scaled e k 3 → x ≡ scaled·.Refused number place → ⊥
 third-refused e k h w x number place f g =
     let t = sym (thirds-within e k h w .told) ∙ sym f ∙ g in
     let z : _≡_ {A = ℕ} 0 1 = cc in
@@ -367,7 +367,7 @@ third-refused e k h w x number place f g =
 
 -- ---- the due test
 
-module _ (h d n : Epoch) (w : Within h × (Within d × Within n)) (x : DueTest) (e : x ≡ dueTest h d n) where
+module _ (h d n : Epoch) (w : Bounded h × (Bounded d × Bounded n)) (x : DueTest) (e : x ≡ dueTest h d n) where
   -- it is never turned down
   due-test : x ≡ cond (due h d n) due·.Due due·.NotDue
   due-test =

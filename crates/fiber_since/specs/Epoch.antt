@@ -8,6 +8,9 @@ use Rattle.fiber_since.specs.declared.epoch.Scaled.the-variants as scale
 use Rattle.fiber_since.specs.declared.epoch.DueTest.{DueTest}
 use Rattle.fiber_since.specs.declared.epoch.DueTest.the-variants as due·
 
+abbrev pub epoch : ℕ → ℕ → ℕ → Epoch
+epoch number index length = record { number = number; index = index; length = length }
+
 -- an epoch value has number (bits 0 to 23), index (24 to 39) and length (40 to 55)
 unfoldable pub epochOf : ℕ → Epoch
 epochOf v = record { number = v % 2 ^ 24; index = v / 2 ^ 24 % 2 ^ 16; length = v / 2 ^ 40 % 2 ^ 16 }

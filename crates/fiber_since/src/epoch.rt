@@ -1,8 +1,8 @@
 // Epochs with a fraction: number + index / length. Indices may exceed lengths.
 ghost use mathlib.Core.Path.{_≡_};
-ghost use Prim.Native.Nat.{ℕ, _<_};
+ghost use Prim.Native.Nat.{_<_};
 ghost use Rattle.fiber_since.specs.Epoch as S;
-ghost use Rattle.fiber_since.specs.inner.Bounds.{checkedMul, Within};
+ghost use Rattle.fiber_since.specs.inner.Bounds.{checkedMul, Bounded};
 
 pub struct Epoch {
     pub number: u64,
@@ -125,7 +125,7 @@ pub fn mul(delay: Epoch, numerator: u64, denominator: u64) -> Scaled
 
 // Whether header + delay is at most current: the whole parts first, then the fractions below one.
 fn due(header: Epoch, delay: Epoch, current: Epoch) -> bool
-    requires { ⌜ (Within header) × ((Within delay) × (Within current)) ⌝ }
+    requires { ⌜ (Bounded header) × ((Bounded delay) × (Bounded current)) ⌝ }
     ensures { λ r. ⌜ r ≡ S.due header delay current ⌝ }
 {
     let l1 = header.length;

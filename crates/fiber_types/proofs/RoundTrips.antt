@@ -16,7 +16,7 @@ use Rattle.fiber_types.specs.declared.tlc.TlcRead.the-variants as tlc·
 use Rattle.fiber_types.specs.declared.unlock.Unlock.{Unlock}
 use Rattle.fiber_types.specs.declared.unlock.UnlockRead.the-variants as unlock·
 use Rattle.fiber_bytes.specs.Bytes.{part, le, leBytes}
-use Rattle.fiber_types.specs.Records.{amountOf, amountAt, validHashLen, tlcBytes, hashPlace, remotePlace, localPlace, tlcAt, readTlc, witnessLen, flagByte, unlockBytes, readUnlock}
+use Rattle.fiber_types.specs.Records.{amountOf, amountAt, validHashLen, tlcBytes, tlcAt, readTlc, witnessLen, flagByte, unlockBytes, readUnlock}
 use Rattle.fiber_bytes.proofs.BytesLaws.{either, part-add, part-length, part-one, le-add, leBytes-length}
 use Rattle.fiber_types.proofs.RecordsLaws.{tlcBytes-length, unlockBytes-length, tlc-whole, tlc-fields, unlock-whole, at-least, amount-both}
 
@@ -82,9 +82,9 @@ pub record TlcFits (t : Tlc) : Type 0 where
 -- What reading finds in s at a place: the TLC, and its three parts.
 pub record TlcBack (h : ℕ) (s : List ℕ) (at : ℕ) (t : Tlc) (a b c : List ℕ) : Type 0 where
   pub tlc : readTlc h s at ≡ tlc·.Record t
-  pub hash : part s (hashPlace at) h ≡ a
-  pub remote : part s (remotePlace h at) 20 ≡ b
-  pub local : part s (localPlace h at) 20 ≡ c
+  pub hash : part s (at + 17) h ≡ a
+  pub remote : part s (at + 17 + h) 20 ≡ b
+  pub local : part s (at + 37 + h) 20 ≡ c
 
 module _ (t : Tlc) (hash remote local p q : List ℕ) (w : TlcFits t) (k : validHashLen (length hash) ≡ true) (e : length remote ≡ 20) (f : length local ≡ 20) where
   abbrev low : List ℕ
@@ -179,7 +179,7 @@ tlc-read h s at t e = go (validHashLen h) (leb (at + (65 + h)) (length s)) refl 
 
 -- What was read and written is the same bytes.
 pub tlc-same-bytes : (h : ℕ) (s : List ℕ) (at : ℕ) (t : Tlc) → Bytes s → readTlc h s at ≡ tlc·.Record t
-    → tlcBytes t (part s (hashPlace at) h) (part s (remotePlace h at) 20) (part s (localPlace h at) 20) ≡ part s at (65 + h)
+    → tlcBytes t (part s (at + 17) h) (part s (at + 17 + h) 20) (part s (at + 37 + h) 20) ≡ part s at (65 + h)
 unfolding tlcBytes tlcAt amountAt
 tlc-same-bytes h s at t w e =
     let r = tlc-read h s at t e in

@@ -1,5 +1,6 @@
 -- TLC records and unlocks; document 01, "Records", with the numbers of its table.
 use Prim.Native.Nat.{ℕ, _+_, _-_, _*_, _%_, _^_}
+use mathlib.Core.Path.{_≡_}
 use mathlib.Core.Bool.{Bool, true, false, cond}
 use mathlib.Core.List.{List, _∷_, _++_}
 use lib.ListN.{length, getD}
@@ -19,22 +20,26 @@ use Rattle.fiber_bytes.specs.Bytes.{part, le, leBytes}
 -- ---- what writers answer
 
 -- a writer's answer, and the output as it leaves it
-pub record Outcome : Type 0 where
-  pub answer : Written
+pub record Outcome (A : Type 0) : Type 0 where
+  pub answer : A
   pub bytes : List ℕ
 
+-- an answer and an output that are those of an outcome
+abbrev pub Gives : {A : Type 0} → Outcome A → A → List ℕ → Type 0
+Gives o answer out = (answer ≡ o .answer) × (out ≡ o .bytes)
+
 -- turned down: the output is as it was
-abbrev pub refused : ℕ → ℕ → List ℕ → Outcome
-refused number place out = record { answer = written·.Refused number place; bytes = out }
+abbrev pub unwritten : {A : Type 0} → A → List ℕ → Outcome A
+unwritten answer out = record { answer = answer; bytes = out }
 
 -- bytes to the front of an output: 14 where what they are made of does not fit the layout, then 13, at the bytes needed
-unfoldable pub outcome : Bool → List ℕ → List ℕ → Outcome
+unfoldable pub outcome : Bool → List ℕ → List ℕ → Outcome Written
 outcome fits bytes out =
     cond fits
     (cond (leb (length bytes) (length out))
     (record { answer = written·.Bytes (length bytes); bytes = sets out 0 bytes })
-    (refused 13 (length bytes) out))
-    (refused 14 0 out)
+    (unwritten (written·.Refused 13 (length bytes)) out))
+    (unwritten (written·.Refused 14 0) out)
 
 -- ---- amounts: 16 bytes, as two halves of 64 bits
 
@@ -61,22 +66,9 @@ tlcBytes t hash remote local =
     t .kind
     ∷ (leBytes 8 (t .amount .low) ++ (leBytes 8 (t .amount .high) ++ (hash ++ (remote ++ (local ++ leBytes 8 (t .expiry))))))
 
--- the places of the parts of a TLC at a place
-abbrev pub hashPlace : ℕ → ℕ
-hashPlace at = at + 17
-
-abbrev pub remotePlace : ℕ → ℕ → ℕ
-remotePlace h at = at + 17 + h
-
-abbrev pub localPlace : ℕ → ℕ → ℕ
-localPlace h at = at + 37 + h
-
-abbrev pub expiryPlace : ℕ → ℕ → ℕ
-expiryPlace h at = at + 57 + h
-
 -- the numbers of the TLC at a place
 unfoldable pub tlcAt : ℕ → List ℕ → ℕ → Tlc
-tlcAt h s at = record { kind = getD s at 0; amount = amountAt s (at + 1); expiry = le (part s (expiryPlace h at) 8) }
+tlcAt h s at = record { kind = getD s at 0; amount = amountAt s (at + 1); expiry = le (part s (at + 57 + h) 8) }
 
 -- 14, then a TLC cut short: 2 at its first byte
 unfoldable pub readTlc : ℕ → List ℕ → ℕ → TlcRead
@@ -87,7 +79,7 @@ readTlc h s at =
     (tlc·.Refused 2 at))
     (tlc·.Refused 14 0)
 
-unfoldable pub wroteTlc : Tlc → List ℕ → List ℕ → List ℕ → List ℕ → Outcome
+unfoldable pub wroteTlc : Tlc → List ℕ → List ℕ → List ℕ → List ℕ → Outcome Written
 wroteTlc t hash remote local out =
     outcome (cond (validHashLen (length hash)) (cond (eqb (length remote) 20) (eqb (length local) 20) false) false) (tlcBytes t hash remote local) out
 
@@ -112,6 +104,6 @@ readUnlock s at =
     (unlock·.Record (record { byte = getD s at 0; flag = flag }))
     (unlock·.Refused 4 at)
 
-unfoldable pub wroteUnlock : Unlock → List ℕ → List ℕ → List ℕ → Outcome
+unfoldable pub wroteUnlock : Unlock → List ℕ → List ℕ → List ℕ → Outcome Written
 wroteUnlock u signature preimage out =
     outcome (cond (eqb (length signature) 65) (eqb (length preimage) (witnessLen (u .flag) - 67)) false) (unlockBytes u signature preimage) out

@@ -4,7 +4,7 @@ use fiber_bytes::le64;
 use fiber_bytes::put;
 use fiber_bytes::put_le64;
 ghost use mathlib.Core.Path.{_≡_};
-ghost use Prim.Native.Nat.{ℕ, _+_, _≤_};
+ghost use Prim.Native.Nat.{_+_, _≤_};
 ghost use lib.ListN.{length};
 ghost use lib.Seq.{sets};
 ghost use Rattle.fiber_types.specs.Records as S;
@@ -117,8 +117,7 @@ fn put_tlc(t: Tlc, hash: &[u8], remote: &[u8], local: &[u8], out: &mut [u8])
 
 // Writes a TLC's record to the front of out, which may be a part of a longer output.
 pub fn write(t: Tlc, hash: &[u8], remote: &[u8], local: &[u8], out: &mut [u8]) -> Written
-    ensures { λ r. ⌜ r ≡ S.wroteTlc t (now (hash .entry)) (now (remote .entry)) (now (local .entry)) (now (out .entry)) .answer ⌝ }
-    ensures { λ _. ⌜ now (out .exit) ≡ S.wroteTlc t (now (hash .entry)) (now (remote .entry)) (now (local .entry)) (now (out .entry)) .bytes ⌝ }
+    ensures { λ r. ⌜ S.Gives (S.wroteTlc t (now (hash .entry)) (now (remote .entry)) (now (local .entry)) (now (out .entry))) r (now (out .exit)) ⌝ }
 {
     if !valid_hash_len(hash.len()) {
         return Written::Refused {

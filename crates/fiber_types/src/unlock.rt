@@ -2,7 +2,7 @@
 use crate::answer::Written;
 use fiber_bytes::put;
 ghost use mathlib.Core.Path.{_≡_};
-ghost use Prim.Native.Nat.{ℕ, _+_, _≤_};
+ghost use Prim.Native.Nat.{_+_, _≤_};
 ghost use lib.ListN.{length};
 ghost use lib.Seq.{sets};
 ghost use Rattle.fiber_types.specs.Records as S;
@@ -87,8 +87,7 @@ fn put_unlock(u: Unlock, signature: &[u8], preimage: &[u8], out: &mut [u8])
 
 // Writes an unlock to the front of out: with a preimage of 32 bytes and flag 1, or with none and flag 0.
 pub fn write(u: Unlock, signature: &[u8], preimage: &[u8], out: &mut [u8]) -> Written
-    ensures { λ r. ⌜ r ≡ S.wroteUnlock u (now (signature .entry)) (now (preimage .entry)) (now (out .entry)) .answer ⌝ }
-    ensures { λ _. ⌜ now (out .exit) ≡ S.wroteUnlock u (now (signature .entry)) (now (preimage .entry)) (now (out .entry)) .bytes ⌝ }
+    ensures { λ r. ⌜ S.Gives (S.wroteUnlock u (now (signature .entry)) (now (preimage .entry)) (now (out .entry))) r (now (out .exit)) ⌝ }
 {
     let size = u.witness_len();
     if signature.len() != 65 {

@@ -14,7 +14,7 @@ use fiber_choice::kinds::TRACKED_FIXED;
 use fiber_choice::kinds::TRACKED_RECORD;
 use fiber_choice::kinds::Way;
 use fiber_first::built::same_as_tracked;
-use fiber_first::built::share_of;
+use fiber_first::built::share_by;
 use fiber_output::output::write_output;
 use fiber_types::epoch::DueTest;
 use fiber_types::epoch::Epoch;
@@ -27,18 +27,18 @@ ghost use mathlib.Core.List.{List};
 ghost use Prim.Native.Nat.{ℕ, _+_, _*_, _≤_, _<_};
 ghost use lib.ListN.{length};
 ghost use Rattle.fiber_since.specs.Epoch.{scaled, withinBits, due};
-ghost use Rattle.fiber_since.specs.inner.Bounds.{Within};
+ghost use Rattle.fiber_since.specs.inner.Bounds.{Bounded};
 ghost use Rattle.fiber_types.specs.Records.{validHashLen};
 ghost use Rattle.fiber_choice.specs.Entries.{entries, all, validSettlement, settlementLen, trackedLen};
 ghost use Rattle.fiber_choice.specs.Request.{requestOf};
 ghost use Rattle.fiber_choice.specs.Verdicts.{duesBy};
-ghost use Rattle.fiber_choice.specs.HandedOut.{Gives};
+ghost use Rattle.fiber_types.specs.Records.{Gives};
 ghost use Rattle.fiber_choice.specs.Settlements as S;
 ghost use Rattle.fiber_choice.specs.inner.Plan.{Below};
 
 // The due test where every field is within its bits and no length is 0.
 fn is_over(header: Epoch, delay: Epoch, current: Epoch) -> bool
-    requires { ⌜ Within header × (Within delay × Within current) ⌝ }
+    requires { ⌜ Bounded header × (Bounded delay × Bounded current) ⌝ }
     ensures { λ r. ⌜ r ≡ due header delay current ⌝ }
 {
     match is_due(header, delay, current) {
@@ -77,7 +77,7 @@ fn first_place(h: usize, choice: Choice) -> usize
 
 // Which parts of the delay are due.
 fn dues_by(header: Epoch, third: Epoch, two_thirds: Epoch, full: Epoch, current: Epoch) -> Dues
-    requires { ⌜ (Within header × Within current) × (Within third × (Within «two_thirds» × Within full)) ⌝ }
+    requires { ⌜ (Bounded header × Bounded current) × (Bounded third × (Bounded «two_thirds» × Bounded full)) ⌝ }
     ensures { λ r. ⌜ r ≡ duesBy header third «two_thirds» full current ⌝ }
 {
     Dues {
@@ -101,8 +101,13 @@ fn first_thirds(
 ) -> ChoiceAnswer
     requires { ⌜ (validHashLen (scalars .h) ≡ true) × ((length (entries (trackedLen (scalars .h)) (now tracked)) ≤ 254) × (36 ≤ length (now args))) ⌝ }
     requires { ⌜ length (entries settlementLen (now tlcs)) ≡ length (entries (trackedLen (scalars .h)) (now tracked)) ⌝ }
-    requires { ⌜ Within (scalars .header) × (Within (scalars .current) × Within full) ⌝ }
-    ensures { λ r. ⌜ Gives (S.firstThirds (requestOf scalars (now (args .entry)) (now (tlcs .entry)) (now («local_key» .entry)) (now («remote_key» .entry)) (now (tracked .entry)) (now (preimages .entry))) (now (out .entry)) full (scaled full 1 3) (scaled full 2 3)) r (now (out .exit)) ⌝ }
+    requires { ⌜ Bounded (scalars .header) × (Bounded (scalars .current) × Bounded full) ⌝ }
+    ensures { λ r. ⌜ Gives
+        (S.firstThirds
+        (requestOf scalars (now (args .entry)) (now (tlcs .entry)) (now («local_key» .entry)) (now («remote_key» .entry))
+        (now (tracked .entry)) (now (preimages .entry)))
+        (now (out .entry)) full (scaled full 1 3) (scaled full 2 3))
+        r (now (out .exit)) ⌝ }
 {
     let Scaled::Epoch(third) = mul(full, 1, 3) else {
         return ChoiceAnswer::Refused {
@@ -131,10 +136,20 @@ fn first_thirds(
             place: 0,
         };
     };
-    let ours = share_of(local_key, scalars.local_amount);
-    let theirs = share_of(remote_key, scalars.remote_amount);
-    let remote = if scalars.for_remote { theirs } else { ours };
-    let local = if scalars.for_remote { ours } else { theirs };
+    let remote = share_by(
+        scalars.for_remote,
+        remote_key,
+        scalars.remote_amount,
+        local_key,
+        scalars.local_amount,
+    );
+    let local = share_by(
+        scalars.for_remote,
+        local_key,
+        scalars.local_amount,
+        remote_key,
+        scalars.remote_amount,
+    );
     let delay = Delay::Epoch(delay_for(third, two_thirds, full, choice));
     let place = first_place(scalars.h, choice);
     write_output(
@@ -168,7 +183,8 @@ fn lengths_zero(header: Epoch, current: Epoch, full: Epoch) -> bool
 // Rows 7, 12 and 20.
 fn first_ready(scalars: Scalars, full: Epoch, tlcs: &[u8], tracked: &[u8]) -> Ready
     requires { ⌜ (validHashLen (scalars .h) ≡ true) × (all validSettlement (entries settlementLen (now tlcs)) ≡ true) ⌝ }
-    ensures { λ r. ⌜ ((args localKey remoteKey preimages : List ℕ) → r ≡ S.firstReady (requestOf scalars args (now (tlcs .entry)) localKey remoteKey (now (tracked .entry)) preimages) full) ⌝ }
+    ensures { λ r. ⌜ ((args localKey remoteKey preimages : List ℕ) → r ≡ S.firstReady
+        (requestOf scalars args (now (tlcs .entry)) localKey remoteKey (now (tracked .entry)) preimages) full) ⌝ }
 {
     if lengths_zero(scalars.header, scalars.current, full) {
         return Ready::Refused(7);
@@ -196,7 +212,12 @@ pub fn choose_first(
 ) -> ChoiceAnswer
     requires { ⌜ (validHashLen (scalars .h) ≡ true) × ((all validSettlement (entries settlementLen (now tlcs)) ≡ true) × (36 ≤ length (now args))) ⌝ }
     requires { ⌜ (withinBits (scalars .header) ≡ true) × ((withinBits (scalars .current) ≡ true) × (withinBits full ≡ true)) ⌝ }
-    ensures { λ r. ⌜ Gives (S.first (requestOf scalars (now (args .entry)) (now (tlcs .entry)) (now («local_key» .entry)) (now («remote_key» .entry)) (now (tracked .entry)) (now (preimages .entry))) full (now (out .entry))) r (now (out .exit)) ⌝ }
+    ensures { λ r. ⌜ Gives
+        (S.first
+        (requestOf scalars (now (args .entry)) (now (tlcs .entry)) (now («local_key» .entry)) (now («remote_key» .entry))
+        (now (tracked .entry)) (now (preimages .entry)))
+        full (now (out .entry)))
+        r (now (out .exit)) ⌝ }
 {
     match first_ready(scalars, full, tlcs, tracked) {
         Ready::Refused(number) => ChoiceAnswer::Refused { number, place: 0 },

@@ -28,15 +28,14 @@ ghost use mathlib.Core.Bool.{true};
 ghost use mathlib.Core.List.{List};
 ghost use Prim.Native.Nat.{ℕ, _+_, _*_, _≤_, _<_};
 ghost use lib.ListN.{length, getD, take};
-ghost use Rattle.fiber_bytes.specs.Bytes.{part};
 ghost use Rattle.fiber_types.specs.Records.{validHashLen};
-ghost use Rattle.fiber_witness.specs.Witness.{sharePlace};
-ghost use Rattle.fiber_witness.specs.Update.{shareLeft, standing};
+ghost use Rattle.fiber_witness.specs.inner.Strided.{sharePlace};
+ghost use Rattle.fiber_witness.specs.Update.{standing};
 ghost use Rattle.fiber_witness.specs.inner.Marks.{marked};
 ghost use Rattle.fiber_choice.specs.Entries.{same, sameLists, entries, trackedLen, trackedRecords};
 ghost use Rattle.fiber_choice.specs.Request.{requestOf};
 ghost use Rattle.fiber_choice.specs.FirstRecords.{hashOf};
-ghost use Rattle.fiber_choice.specs.HandedOut.{Gives};
+ghost use Rattle.fiber_types.specs.Records.{Gives};
 ghost use Rattle.fiber_choice.specs.Settlements as S;
 
 // Whether the records that stand of a witness, k of n, are those of the tracked list, one for one.
@@ -114,7 +113,9 @@ fn later_ready(
     ours: [u8; 36],
 ) -> Ready
     requires { ⌜ (scalars .h ≤ 32) × ((n ≤ 255) × (sharePlace (scalars .h) n ≤ length (now w))) ⌝ }
-    ensures { λ r. ⌜ ((args tlcs remoteKey preimages : List ℕ) → r ≡ S.laterReady (requestOf scalars args tlcs (now («local_key» .entry)) remoteKey (now (tracked .entry)) preimages) (standing (scalars .h) (now (w .entry)) n (marked marks)) ours) ⌝ }
+    ensures { λ r. ⌜ ((args tlcs remoteKey preimages : List ℕ) → r ≡ S.laterReady
+        (requestOf scalars args tlcs (now («local_key» .entry)) remoteKey (now (tracked .entry)) preimages)
+        (standing (scalars .h) (now (w .entry)) n (marked marks)) ours) ⌝ }
 {
     let k = count_standing(marks, n);
     if MOST_TLCS < k {
@@ -138,7 +139,8 @@ fn later_choice(
     other: [u8; 36],
 ) -> Step
     requires { ⌜ (validHashLen (scalars .h) ≡ true) × (length (entries (trackedLen (scalars .h)) (now tracked)) ≤ 254) ⌝ }
-    ensures { λ r. ⌜ ((args localKey remoteKey : List ℕ) → r ≡ S.laterChoice (requestOf scalars args (now (tlcs .entry)) localKey remoteKey (now (tracked .entry)) (now (preimages .entry))) other) ⌝ }
+    ensures { λ r. ⌜ ((args localKey remoteKey : List ℕ) → r ≡ S.laterChoice
+        (requestOf scalars args (now (tlcs .entry)) localKey remoteKey (now (tracked .entry)) (now (preimages .entry))) other) ⌝ }
 {
     let zeros = [0u8; 20];
     if same(part_of(&other, 0, 20), &zeros) {
@@ -172,7 +174,12 @@ fn later_state(
     out: &mut [u8],
 ) -> ChoiceAnswer
     requires { ⌜ (validHashLen (scalars .h) ≡ true) × ((n ≤ 255) × ((sharePlace (scalars .h) n ≤ length (now w)) × (36 ≤ length (now args)))) ⌝ }
-    ensures { λ r. ⌜ Gives (S.laterState (requestOf scalars (now (args .entry)) (now (tlcs .entry)) (now («local_key» .entry)) (now («remote_key» .entry)) (now (tracked .entry)) (now (preimages .entry))) (now (out .entry)) (standing (scalars .h) (now (w .entry)) n (marked marks)) (S.unsettled (marked marks) 0 n) remote local) r (now (out .exit)) ⌝ }
+    ensures { λ r. ⌜ Gives
+        (S.laterState
+        (requestOf scalars (now (args .entry)) (now (tlcs .entry)) (now («local_key» .entry)) (now («remote_key» .entry))
+        (now (tracked .entry)) (now (preimages .entry)))
+        (now (out .entry)) (standing (scalars .h) (now (w .entry)) n (marked marks)) (S.unsettled (marked marks) 0 n) remote local)
+        r (now (out .exit)) ⌝ }
 {
     let ours = if scalars.for_remote { local } else { remote };
     let other = if scalars.for_remote { remote } else { local };
@@ -217,15 +224,20 @@ pub fn choose_later(
     out: &mut [u8],
 ) -> ChoiceAnswer
     requires { ⌜ (validHashLen (scalars .h) ≡ true) × (36 ≤ length (now args)) ⌝ }
-    ensures { λ r. ⌜ Gives (S.later (requestOf scalars (now (args .entry)) (now (tlcs .entry)) (now («local_key» .entry)) (now («remote_key» .entry)) (now (tracked .entry)) (now (preimages .entry))) (now (w .entry)) (now (out .entry))) r (now (out .exit)) ⌝ }
+    ensures { λ r. ⌜ Gives
+        (S.later
+        (requestOf scalars (now (args .entry)) (now (tlcs .entry)) (now («local_key» .entry)) (now («remote_key» .entry))
+        (now (tracked .entry)) (now (preimages .entry)))
+        (now (w .entry)) (now (out .entry)))
+        r (now (out .exit)) ⌝ }
 {
     match witness::read(scalars.h, w) {
         WitnessRead::Refused { number, place } => ChoiceAnswer::Refused { number, place },
         WitnessRead::Whole {
             n,
-            unlocks: _,
-            share,
-            first,
+            unlock_count: _,
+            share_place: share,
+            first_unlock: first,
         } => {
             let j = take_unlocks(w, n, first);
             let answer = j.answer;

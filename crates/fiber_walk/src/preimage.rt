@@ -6,9 +6,8 @@ use fiber_first::entries::same;
 use fiber_types::blake2b::ckb_hash;
 use fiber_types::sha256::sha256;
 ghost use mathlib.Core.Path.{_≡_};
-ghost use Prim.Native.Nat.{ℕ, _+_, _*_, _≤_};
-ghost use lib.ListN.{length, getD};
-ghost use mathlib.Core.List.{[]};
+ghost use Prim.Native.Nat.{_+_, _*_, _≤_};
+ghost use lib.ListN.{length};
 ghost use Rattle.fiber_choice.specs.Entries.{entries, pairLen};
 ghost use Rattle.fiber_choice.specs.Preimages as S;
 

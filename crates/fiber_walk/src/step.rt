@@ -85,7 +85,8 @@ fn later_timeout(
     pending: usize,
 ) -> Step
     requires { ⌜ h ≤ 32 ⌝ }
-    ensures { λ r. ⌜ ((pair : found·.Found) → r ≡ W.stepOf time place pending (S.byKey true ms pair (S.keyOf h «for_remote» (entries settlementLen (now (tlcs .entry))) (now (tlc .entry))))) ⌝ }
+    ensures { λ r. ⌜ ((pair : found·.Found) → r ≡ W.stepOf time place pending
+        (S.byKey true ms pair (S.keyOf h «for_remote» (entries settlementLen (now (tlcs .entry))) (now (tlc .entry))))) ⌝ }
 {
     if time <= ms {
         return Step::Pending(pending);
@@ -110,7 +111,9 @@ fn later_preimage(
     pending: usize,
 ) -> Step
     requires { ⌜ (h ≤ 32) × ((length (now tracked) ≡ 98 + h) × (0 < pending)) ⌝ }
-    ensures { λ r. ⌜ r ≡ W.stepOf time place pending (S.byKey false ms (countingPair (entries pairLen (now (preimages .entry))) (now (tracked .entry))) (S.keyOf h «for_remote» (entries settlementLen (now (tlcs .entry))) (trackedRecord (now (tracked .entry))))) ⌝ }
+    ensures { λ r. ⌜ r ≡ W.stepOf time place pending (S.byKey false ms
+        (countingPair (entries pairLen (now (preimages .entry))) (now (tracked .entry)))
+        (S.keyOf h «for_remote» (entries settlementLen (now (tlcs .entry))) (trackedRecord (now (tracked .entry))))) ⌝ }
 {
     let tlc = part_of(tracked, TRACKED_RECORD, TLC_FIXED + h);
     match find_pair(preimages, part_of(tracked, 0, 32)) {
@@ -147,7 +150,8 @@ fn later_step(
     pending: usize,
 ) -> Step
     requires { ⌜ (validHashLen h ≡ true) × ((length (now tracked) ≡ 98 + h) × (0 < pending)) ⌝ }
-    ensures { λ r. ⌜ r ≡ W.stepOf time place pending (S.laterVerdict h «for_remote» (entries settlementLen (now (tlcs .entry))) (entries pairLen (now (preimages .entry))) (now (tracked .entry))) ⌝ }
+    ensures { λ r. ⌜ r ≡ W.stepOf time place pending (S.laterVerdict h «for_remote» (entries settlementLen (now (tlcs .entry)))
+        (entries pairLen (now (preimages .entry))) (now (tracked .entry))) ⌝ }
 {
     let record = part_of(tracked, TRACKED_RECORD, TLC_FIXED + h);
     let TlcRead::Record(tlc) = tlc::read(h, record, 0) else {
@@ -184,7 +188,8 @@ fn first_step(
     pending: usize,
 ) -> Step
     requires { ⌜ (length (now tlc) ≡ 124) × ((33 ≤ length (now tracked)) × (0 < pending)) ⌝ }
-    ensures { λ r. ⌜ r ≡ W.stepOf time place pending (S.firstVerdict «for_remote» (entries pairLen (now (preimages .entry))) dues place (now (tlc .entry)) (now (tracked .entry))) ⌝ }
+    ensures { λ r. ⌜ r ≡ W.stepOf time place pending (S.firstVerdict «for_remote» (entries pairLen (now (preimages .entry))) dues
+        place (now (tlc .entry)) (now (tracked .entry))) ⌝ }
 {
     let ms = le64(tlc, 50);
     if timeout_kind(for_remote, tlc[0] == 0) {
@@ -221,7 +226,8 @@ pub fn step(
 ) -> Step
     requires { ⌜ (validHashLen h ≡ true) × ((length (now tracked) ≡ 98 + h) × (0 < pending)) ⌝ }
     requires { ⌜ (place ≤ 254) × Reaches stage place (length (entries settlementLen (now tlcs))) ⌝ }
-    ensures { λ r. ⌜ r ≡ W.stepOf time place pending (S.verdict h «for_remote» (entries settlementLen (now (tlcs .entry))) (entries pairLen (now (preimages .entry))) stage place (now (tracked .entry))) ⌝ }
+    ensures { λ r. ⌜ r ≡ W.stepOf time place pending (S.verdict h «for_remote» (entries settlementLen (now (tlcs .entry)))
+        (entries pairLen (now (preimages .entry))) stage place (now (tracked .entry))) ⌝ }
 {
     match stage {
         Stage::First(dues) => first_step(

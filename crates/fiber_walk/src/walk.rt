@@ -6,7 +6,7 @@ use fiber_choice::kinds::Step;
 use fiber_choice::kinds::TRACKED_FIXED;
 ghost use mathlib.Core.Path.{_≡_};
 ghost use mathlib.Core.Bool.{true};
-ghost use Prim.Native.Nat.{ℕ, _+_, _*_, _≤_, _<_};
+ghost use Prim.Native.Nat.{_+_, _≤_};
 ghost use lib.ListN.{length};
 ghost use Rattle.fiber_types.specs.Records.{validHashLen};
 ghost use Rattle.fiber_choice.specs.Entries.{entries, settlementLen, trackedLen, pairLen};
@@ -25,7 +25,9 @@ fn walk(
 ) -> Step
     requires { ⌜ (validHashLen h ≡ true) × (length (entries (trackedLen h) (now tracked)) ≤ 254) ⌝ }
     requires { ⌜ ReachesAll stage (length (entries (trackedLen h) (now tracked))) (length (entries settlementLen (now tlcs))) ⌝ }
-    ensures { λ r. ⌜ r ≡ W.walk time 0 (length (entries (trackedLen h) (now (tracked .entry)))) (S.verdicts h «for_remote» (entries settlementLen (now (tlcs .entry))) (entries pairLen (now (preimages .entry))) stage 0 (entries (trackedLen h) (now (tracked .entry)))) ⌝ }
+    ensures { λ r. ⌜ r ≡ W.walk time 0 (length (entries (trackedLen h) (now (tracked .entry)))) (S.verdicts h «for_remote»
+        (entries settlementLen (now (tlcs .entry))) (entries pairLen (now (preimages .entry))) stage 0
+        (entries (trackedLen h) (now (tracked .entry)))) ⌝ }
 {
     let size = TRACKED_FIXED + h;
     let n = tracked.len() / size;
@@ -91,7 +93,8 @@ pub fn walked(
 ) -> Step
     requires { ⌜ (validHashLen h ≡ true) × (length (entries (trackedLen h) (now tracked)) ≤ 254) ⌝ }
     requires { ⌜ ReachesAll stage (length (entries (trackedLen h) (now tracked))) (length (entries settlementLen (now tlcs))) ⌝ }
-    ensures { λ r. ⌜ r ≡ S.walked h «for_remote» time (entries settlementLen (now (tlcs .entry))) (entries pairLen (now (preimages .entry))) stage (entries (trackedLen h) (now (tracked .entry))) ⌝ }
+    ensures { λ r. ⌜ r ≡ S.walked h «for_remote» time (entries settlementLen (now (tlcs .entry)))
+        (entries pairLen (now (preimages .entry))) stage (entries (trackedLen h) (now (tracked .entry))) ⌝ }
 {
     let step = walk(h, for_remote, time, stage, tlcs, preimages, tracked);
     or_share(for_remote, may_share(stage), step)

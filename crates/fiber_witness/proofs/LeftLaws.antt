@@ -10,12 +10,10 @@ use Rattle.fiber_types.specs.declared.answer.Written.{Written}
 use Rattle.fiber_types.specs.declared.answer.Written.the-variants as written·
 use Rattle.fiber_witness.specs.declared.witness.WitnessRead.{WitnessRead}
 use Rattle.fiber_witness.specs.declared.witness.WitnessRead.the-variants as read·
-use Rattle.fiber_witness.specs.declared.unlocks.UnlocksAnswer.{UnlocksAnswer}
-use Rattle.fiber_witness.specs.declared.unlocks.UnlocksAnswer.the-variants as unlocks·
 use Rattle.fiber_witness.specs.Witness.{recordLen, stateBytes, places, readWitness}
-use Rattle.fiber_witness.specs.Update.{Taken, none, takeUnlocks, stateLeft, Unlocked, byAnswer, byUnlocks, byRead, unlocked, written, updated}
+use Rattle.fiber_witness.specs.Update.{Taken, none, stateLeft, Unlocked, byRead, unlocked, written, updated}
 use Rattle.fiber_witness.proofs.WitnessLaws.{Fine, FineRead, fine}
-use Rattle.fiber_witness.proofs.UpdateLaws.{standing-length, state-length}
+use Rattle.fiber_witness.proofs.UpdateLaws.{Comes, comes-fine, comes-faulty, unlocks-come, standing-length, state-length}
 use Rattle.fiber_types.proofs.RecordsLaws.{outcome-by}
 
 -- what was stored at the front is what is read there
@@ -43,17 +41,17 @@ module _ (h : ℕ) (w out : List ℕ) (n share first : ℕ) (f : Fine h w n shar
     size = omega (arith, state-length h w n share t (f .shares), standing-length h w n (t .settled) (omega (arith, f .tlcs, f .shares)));
   }
 
-  left-answer : (t : Taken) (v : UnlocksAnswer) → Left h (written h w out (byAnswer n share t v) .bytes) (written h w out (byAnswer n share t v) .answer)
-  unfolding byAnswer written
-  left-answer t unlocks·.Fine =
+  left-unlocked : {x : Unlocked} → Comes n share x → Left h (written h w out x .bytes) (written h w out x .answer)
+  unfolding written
+  left-unlocked (comes-fine t) =
       outcome-by (Left h) (stateLeft h w n share t) out (λ g. subst (Whole h) (sym (take-sets out (stateLeft h w n share t) g)) (whole-state t)) tt
-  left-answer t (unlocks·.Refused number place) = tt
+  left-unlocked (comes-faulty number place z) = tt
 
 -- What an update that was taken leaves is a whole state.
 pub left : (h : ℕ) (w out : List ℕ) → Left h (updated h w out .bytes) (updated h w out .answer)
-unfolding updated unlocked byRead byUnlocks written
+unfolding updated unlocked byRead written
 left h w out = go (readWitness h w) (fine h w)
   where
     go : (r : WitnessRead) → FineRead h w r → Left h (written h w out (byRead w r) .bytes) (written h w out (byRead w r) .answer)
-    go (read·.Whole n k share first) f = left-answer h w out n share first f (takeUnlocks n w none (places w first) .taken) (takeUnlocks n w none (places w first) .answer)
+    go (read·.Whole n k share first) f = left-unlocked h w out n share first f (unlocks-come n share w none (places w first))
     go (read·.Refused number place) f = tt

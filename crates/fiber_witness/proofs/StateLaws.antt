@@ -11,8 +11,9 @@ use Rattle.fiber_bytes.specs.Bytes.{part}
 use Rattle.fiber_bytes.proofs.BytesLaws.{part-add, part-length}
 use Rattle.fiber_types.specs.Records.{validHashLen}
 use Rattle.fiber_witness.specs.declared.witness.WitnessRead.the-variants.{Whole, Refused}
-use Rattle.fiber_witness.specs.Witness.{recordLen, sharePlace, records, flat, stateBytes, places, unlessCut, readUnlocks, readTlcs, readWitness}
+use Rattle.fiber_witness.specs.Witness.{recordLen, records, flat, stateBytes, places, unlessCut, readUnlocks, readTlcs, readWitness}
 use Rattle.fiber_witness.specs.Update.{Taken, keep, shareLeft, standing, stateLeft}
+use Rattle.fiber_witness.specs.inner.Strided.{sharePlace}
 use Rattle.fiber_witness.proofs.WitnessLaws.{shares-whole, witness-tlcs, Even, flat-even, records-even, records-length, even-records, flat-records, state-size}
 use Rattle.fiber_witness.proofs.UpdateLaws.{keep-few, even-keep, left-length}
 

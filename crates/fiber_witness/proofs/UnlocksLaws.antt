@@ -13,8 +13,13 @@ use lib.Dec.{leb, eqb}
 use borrow.Author.Tests.{ne-eqb, le-leb, leb-true, leb-false}
 use Rattle.fiber_bytes.proofs.CaseLaws.{by-test}
 use Rattle.fiber_witness.specs.Witness.{unlockLen, flat, places, unlessCut}
-use Rattle.fiber_witness.specs.Unlocks.{unlockSize, Unlocks, unlocksWithin, unlocksIn, beginnings}
+use Rattle.fiber_witness.specs.Unlocks.{unlockSize, Unlocks, unlocksWithin, unlocksIn}
 use Rattle.fiber_witness.proofs.WitnessLaws.{unlock-long, places-nil, places-cons, cut-none, cut-passed, cut-short}
+
+-- where unlocks begin that stand one behind the other, the first at a place
+unfoldable pub beginnings : ℕ → List (List ℕ) → List ℕ
+beginnings at [] = []
+beginnings at (u ∷ us) = at ∷ beginnings (at + length u) us
 
 -- where no unlock begins, and one more
 pub beginnings-none : (at : ℕ) → beginnings at [] ≡ []

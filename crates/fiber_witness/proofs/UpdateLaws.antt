@@ -14,16 +14,20 @@ use borrow.Author.Tests.{lt-ltb, le-ltb, eq-eqb, ne-eqb, eqb-true, eqb-false}
 use Rattle.fiber_bytes.specs.Bytes.{part}
 use Rattle.fiber_bytes.proofs.BytesLaws.{part-length}
 use Rattle.fiber_bytes.proofs.CaseLaws.{by-test}
+use Rattle.fiber_types.specs.declared.answer.Written.{Written}
 use Rattle.fiber_types.specs.declared.answer.Written.the-variants as written·
-use Rattle.fiber_types.specs.Records.{outcome}
+use Rattle.fiber_types.specs.Records.{Outcome, outcome}
 use Rattle.fiber_types.proofs.RecordsLaws.{outcome-short, outcome-whole}
+use Rattle.fiber_witness.specs.declared.witness.WitnessRead.{WitnessRead}
 use Rattle.fiber_witness.specs.declared.witness.WitnessRead.the-variants as read·
 use Rattle.fiber_witness.specs.declared.unlocks.UnlocksAnswer.{UnlocksAnswer}
 use Rattle.fiber_witness.specs.declared.unlocks.UnlocksAnswer.the-variants as unlocks·
-use Rattle.fiber_witness.specs.Witness.{recordLen, sharePlace, unlockLen, records, flat, stateBytes, member, places, readWitness}
-use Rattle.fiber_witness.specs.Update.{Taken, none, TakenUnlocks, takeUnlocks, keep, shareLeft, standing, stateLeft, byAnswer, byUnlocks, byRead, unlocked, written, updated}
-use Rattle.fiber_witness.specs.inner.Marks.{Marks, markedFrom, marked, noMarks}
-use Rattle.fiber_witness.proofs.WitnessLaws.{places-nil, places-cons, read-fine, Even, even-none, even-more, flat-even, records-length, even-records, state-size}
+use Rattle.fiber_witness.specs.Witness.{recordLen, unlockLen, records, flat, member, places, readWitness}
+use Rattle.fiber_witness.specs.Update.{Taken, none, Unlocked, fine, faulty, takeUnlocks, keep, shareLeft, standing, stateLeft, byRead, unlocked, written, updated}
+use Rattle.fiber_witness.specs.inner.Strided.{sharePlace}
+use Rattle.fiber_witness.specs.inner.Marks.{Marks, markedFrom, marked, noMarks, TakesAs}
+use Rattle.fiber_witness.proofs.WitnessLaws as witness·
+use Rattle.fiber_witness.proofs.WitnessLaws.{FineRead, places-nil, places-cons, read-fine, Even, even-none, even-more, flat-even, records-length, even-records, state-size}
 
 -- ---- marks
 
@@ -146,99 +150,118 @@ module _ (h : ℕ) (w : List ℕ) (n : ℕ) (settled : List ℕ) where
 -- ---- the unlocks, one by one
 
 -- without an unlock all is fine
-pub unlocks-none : (n : ℕ) (w : List ℕ) (t : Taken) → takeUnlocks n w t [] ≡ record { answer = unlocks·.Fine; taken = t }
+pub unlocks-none : (n share : ℕ) (w : List ℕ) (t : Taken) → takeUnlocks n share w t [] ≡ fine n share t
 unfolding takeUnlocks
-unlocks-none n w t = refl
+unlocks-none n share w t = refl
 
 -- with one, by its byte
-pub unlocks-more : (n : ℕ) (w : List ℕ) (t : Taken) (p : ℕ) (ps : List ℕ)
-    → takeUnlocks n w t (p ∷ ps)
-    ≡ cond (eqb (getD w p 0) 255) (takeUnlocks n w (record { settled = t .settled; remote = t .remote; local = true }) ps)
-    (cond (eqb (getD w p 0) 254) (takeUnlocks n w (record { settled = t .settled; remote = true; local = t .local }) ps)
+pub unlocks-more : (n share : ℕ) (w : List ℕ) (t : Taken) (p : ℕ) (ps : List ℕ)
+    → takeUnlocks n share w t (p ∷ ps)
+    ≡ cond (eqb (getD w p 0) 255) (takeUnlocks n share w (record { settled = t .settled; remote = t .remote; local = true }) ps)
+    (cond (eqb (getD w p 0) 254) (takeUnlocks n share w (record { settled = t .settled; remote = true; local = t .local }) ps)
     (cond (ltb (getD w p 0) n)
-    (cond (member (getD w p 0) (t .settled)) (record { answer = unlocks·.Refused 6 p; taken = t })
-    (takeUnlocks n w (record { settled = getD w p 0 ∷ t .settled; remote = t .remote; local = t .local }) ps))
-    (record { answer = unlocks·.Refused 5 p; taken = t })))
+    (cond (member (getD w p 0) (t .settled)) (faulty 6 p)
+    (takeUnlocks n share w (record { settled = getD w p 0 ∷ t .settled; remote = t .remote; local = t .local }) ps))
+    (faulty 5 p)))
 unfolding takeUnlocks
-unlocks-more n w t p ps = refl
+unlocks-more n share w t p ps = refl
 
--- a refusal has a number that is not 0
-abbrev pub Numbered : UnlocksAnswer → Type 0
-Numbered unlocks·.Fine = Unit {0}
-Numbered (unlocks·.Refused number place) = number ≡ 0 → ⊥
+-- unlocks are fine of the TLCs and the shares that they were taken of, or are turned down by a number that is not 0
+pub data Comes (n share : ℕ) : Unlocked → Type 0 where
+  comes-fine : (t : Taken) → Comes n share (fine n share t)
+  comes-faulty : (k p : ℕ) → (k ≡ 0 → ⊥) → Comes n share (faulty k p)
 
-pub unlocks-numbered : (n : ℕ) (w : List ℕ) (ps : List ℕ) (t : Taken) → Numbered (takeUnlocks n w t ps .answer)
+pub unlocks-come : (n share : ℕ) (w : List ℕ) (t : Taken) (ps : List ℕ) → Comes n share (takeUnlocks n share w t ps)
 unfolding takeUnlocks
-unlocks-numbered n w [] t = tt
-unlocks-numbered n w (p ∷ ps) t =
-    let P : TakenUnlocks → Type 0 = λ j. Numbered (j .answer) in
-    by-test P (eqb (getD w p 0) 255) _ _
-    (λ _. unlocks-numbered n w ps _)
-    (λ _. by-test P (eqb (getD w p 0) 254) _ _
-    (λ _. unlocks-numbered n w ps _)
-    (λ _. by-test P (ltb (getD w p 0) n) _ _
-    (λ _. by-test P (member (getD w p 0) (t .settled)) _ _ (λ _. omega arith) (λ _. unlocks-numbered n w ps _))
-    (λ _. omega arith)))
+unlocks-come n share w t [] = comes-fine t
+unlocks-come n share w t (p ∷ ps) =
+    by-test (Comes n share) (eqb (getD w p 0) 255) _ _
+    (λ _. unlocks-come n share w _ ps)
+    (λ _. by-test (Comes n share) (eqb (getD w p 0) 254) _ _
+    (λ _. unlocks-come n share w _ ps)
+    (λ _. by-test (Comes n share) (ltb (getD w p 0) n) _ _
+    (λ _. by-test (Comes n share) (member (getD w p 0) (t .settled)) _ _ (λ _. comes-faulty 6 p (omega arith)) (λ _. unlocks-come n share w _ ps))
+    (λ _. comes-faulty 5 p (omega arith))))
 
--- the parts of taken unlocks
-abbrev pub Told : TakenUnlocks → UnlocksAnswer → List Bool → Bool → Bool → Type 0
-Told r v marks remote local = (v ≡ r .answer) × (Marks marks (r .taken .settled) × ((remote ≡ r .taken .remote) × (local ≡ r .taken .local)))
+-- all are fine, and take this
+abbrev pub Ends : Unlocked → Taken → Type 0
+Ends (fine n share t) u = t ≡ u
+Ends (faulty k p) u = ⊥
 
--- from taken unlocks that are known
-told : (r : TakenUnlocks) (v : UnlocksAnswer) (t : Taken) (marks : List Bool) → Marks marks (t .settled) → record { answer = v; taken = t } ≡ r → Told r v marks (t .remote) (t .local)
-told r v t marks m e = subst (λ (j : TakenUnlocks). Told j v marks (t .remote) (t .local)) e (refl, (m, (refl, refl)))
+-- unlocks that are all fine, with marks and shares that say what they took
+pub record All (n share : ℕ) (marks : List Bool) (remote local : Bool) (x : Unlocked) : Type 0 where
+  pub taken : Taken
+  pub is : x ≡ fine n share taken
+  pub says : Marks marks (taken .settled)
+  pub remote-is : remote ≡ taken .remote
+  pub local-is : local ≡ taken .local
+
+-- what `take_unlocks` answers tells which it is
+module _ {n share : ℕ} (v : UnlocksAnswer) (marks : List Bool) (remote local : Bool) where
+  pub takes-all : {x : Unlocked} → Comes n share x → TakesAs x v marks remote local → v ≡ unlocks·.Fine → All n share marks remote local x
+  unfolding TakesAs
+  takes-all (comes-fine t) j e = record { taken = t; is = refl; says = j .1 .0; remote-is = j .1 .1 .0; local-is = j .1 .1 .1 }
+  takes-all (comes-faulty k p z) j e = let o : _≡_ {A = ℕ} 0 1 = cc in absurd (omega arith)
+
+  pub takes-faulty : {x : Unlocked} → Comes n share x → TakesAs x v marks remote local → (k p : ℕ) → v ≡ unlocks·.Refused k p → x ≡ faulty k p
+  unfolding TakesAs
+  takes-faulty (comes-fine t) j k p e = let f = j .0 in let o : _≡_ {A = ℕ} 0 1 = cc in absurd (omega arith)
+  takes-faulty (comes-faulty l q z) j k p e = cc
 
 -- The loop over the unlocks, at place at: to take the rest, from what was taken, gives what taking all gives.
 pub record Taking (n : ℕ) (w : List ℕ) (first : ℕ) (marks : List Bool) (remote local : Bool) (at : ℕ) : Type 0 where
   pub settled : List ℕ
   pub long : length marks ≡ 256
   pub says : Marks marks settled
-  pub rest : takeUnlocks n w (record { settled = settled; remote = remote; local = local }) (places w at) ≡ takeUnlocks n w none (places w first)
+  pub rest : (share : ℕ) → takeUnlocks n share w (record { settled = settled; remote = remote; local = local }) (places w at) ≡ takeUnlocks n share w none (places w first)
 
 -- before the first, nothing is taken
 pub taking-start : (n : ℕ) (w : List ℕ) (first : ℕ) → Taking n w first noMarks false false first
 unfolding noMarks
-taking-start n w first = record { settled = []; long = refl; says = marks-none; rest = refl }
+taking-start n w first = record { settled = []; long = refl; says = marks-none; rest = λ share. refl }
 
 module _ (n : ℕ) (w : List ℕ) (first : ℕ) (marks : List Bool) (remote local : Bool) (at : ℕ) (c : Taking n w first marks remote local at) where
-  abbrev taken : Taken
-  taken = record { settled = c .settled; remote = remote; local = local }
-
-  abbrev all : TakenUnlocks
-  all = takeUnlocks n w none (places w first)
+  abbrev all : ℕ → Unlocked
+  all share = takeUnlocks n share w none (places w first)
 
   -- at the end every unlock is taken
-  pub taking-end : length w ≤ at → Told all unlocks·.Fine marks remote local
-  unfolding takeUnlocks
-  taking-end h = told all unlocks·.Fine taken marks (c .says) (rw (places-nil w at h) at (c .rest))
+  pub taking-end : length w ≤ at → (share : ℕ) → TakesAs (all share) unlocks·.Fine marks remote local
+  unfolding takeUnlocks TakesAs
+  taking-end h share =
+      subst (λ (x : Unlocked). TakesAs x unlocks·.Fine marks remote local) (rw (places-nil w at h) at (c .rest share)) (refl, (c .says, (refl, refl)))
+
+  -- turned down by a row: whatever the marks and the shares
+  turned : (v : UnlocksAnswer) (k p share : ℕ) → v ≡ unlocks·.Refused k p → faulty k p ≡ all share → (m : List Bool) (r l : Bool) → TakesAs (all share) v m r l
+  unfolding TakesAs
+  turned v k p share e f m r l = subst (λ (x : Unlocked). TakesAs x v m r l) f e
 
   module _ (h : at < length w) where
     -- 0xFF
     pub taking-local : getD w at 0 ≡ 255 → Taking n w first marks remote true (at + unlockLen w at)
     unfolding takeUnlocks
-    taking-local a = record { settled = c .settled; long = c .long; says = c .says; rest = rw (places-cons w at h, a) at (c .rest) }
+    taking-local a = record { settled = c .settled; long = c .long; says = c .says; rest = λ share. rw (places-cons w at h, a) at (c .rest share) }
 
     module _ (a : getD w at 0 ≡ 255 → ⊥) where
       -- 0xFE
       pub taking-remote : getD w at 0 ≡ 254 → Taking n w first marks true local (at + unlockLen w at)
       unfolding takeUnlocks
-      taking-remote b = record { settled = c .settled; long = c .long; says = c .says; rest = rw (places-cons w at h, b) at (c .rest) }
+      taking-remote b = record { settled = c .settled; long = c .long; says = c .says; rest = λ share. rw (places-cons w at h, b) at (c .rest share) }
 
       module _ (b : getD w at 0 ≡ 254 → ⊥) where
         -- row 5
-        pub taking-beyond : n ≤ getD w at 0 → Told all (unlocks·.Refused 5 at) marks remote local
+        pub taking-beyond : n ≤ getD w at 0 → (v : UnlocksAnswer) → v ≡ unlocks·.Refused 5 at → (m : List Bool) (r l : Bool) (share : ℕ) → TakesAs (all share) v m r l
         unfolding takeUnlocks
-        taking-beyond f =
-            told all (unlocks·.Refused 5 at) taken marks (c .says)
-            (rw (places-cons w at h, ne-eqb (getD w at 0) 255 a, ne-eqb (getD w at 0) 254 b, le-ltb (getD w at 0) n f) at (c .rest))
+        taking-beyond f v e m r l share =
+            turned v 5 at share e
+            (rw (places-cons w at h, ne-eqb (getD w at 0) 255 a, ne-eqb (getD w at 0) 254 b, le-ltb (getD w at 0) n f) at (c .rest share)) m r l
 
         module _ (f : getD w at 0 < n) where
           -- row 6
-          pub taking-twice : getD marks (getD w at 0) false ≡ true → Told all (unlocks·.Refused 6 at) marks remote local
+          pub taking-twice : getD marks (getD w at 0) false ≡ true → (v : UnlocksAnswer) → v ≡ unlocks·.Refused 6 at → (m : List Bool) (r l : Bool) (share : ℕ) → TakesAs (all share) v m r l
           unfolding takeUnlocks Marks
-          taking-twice d =
-              told all (unlocks·.Refused 6 at) taken marks (c .says)
-              (rw (places-cons w at h, ne-eqb (getD w at 0) 255 a, ne-eqb (getD w at 0) 254 b, lt-ltb (getD w at 0) n f, sym (c .says (getD w at 0)) ∙ d) at (c .rest))
+          taking-twice d v e m r l share =
+              turned v 6 at share e
+              (rw (places-cons w at h, ne-eqb (getD w at 0) 255 a, ne-eqb (getD w at 0) 254 b, lt-ltb (getD w at 0) n f, sym (c .says (getD w at 0)) ∙ d) at (c .rest share)) m r l
 
           -- a TLC
           pub taking-tlc : getD w at 0 < 256 → getD marks (getD w at 0) false ≡ false → Taking n w first (set marks (getD w at 0) true) remote local (at + unlockLen w at)
@@ -247,7 +270,7 @@ module _ (n : ℕ) (w : List ℕ) (first : ℕ) (marks : List Bool) (remote loca
             settled = getD w at 0 ∷ c .settled;
             long = length-set marks (getD w at 0) true ∙ c .long;
             says = marks-set marks (c .settled) (getD w at 0) (omega (arith, c .long)) (c .says);
-            rest = rw (places-cons w at h, ne-eqb (getD w at 0) 255 a, ne-eqb (getD w at 0) 254 b, lt-ltb (getD w at 0) n f, sym (c .says (getD w at 0)) ∙ d) at (c .rest);
+            rest = λ share. rw (places-cons w at h, ne-eqb (getD w at 0) 255 a, ne-eqb (getD w at 0) 254 b, lt-ltb (getD w at 0) n f, sym (c .says (getD w at 0)) ∙ d) at (c .rest share);
           }
 
 -- ---- counting the records that stand
@@ -372,43 +395,35 @@ module _ (h : ℕ) (w : List ℕ) (n : ℕ) (settled : List ℕ) (k : ℕ) (f : 
   counted-size remote local g =
       omega (arith, state-length h w n (sharePlace h n) (record { settled = settled; remote = remote; local = local }) g, counted-flat (omega arith))
 
--- taken unlocks
-module _ (h : ℕ) (w out : List ℕ) (n share : ℕ) (j : TakenUnlocks) where
-  -- that turns down: nothing is written
-  pub unlocks-refused : (k p : ℕ) → j .answer ≡ unlocks·.Refused k p
-      → (written·.Refused k p ≡ written h w out (byUnlocks n share j) .answer) × (out ≡ written h w out (byUnlocks n share j) .bytes)
-  unfolding byUnlocks byAnswer written
-  unlocks-refused k p e = (rw e, rw e)
+-- with the answer of `take_unlocks`
+module _ (h : ℕ) (w out : List ℕ) (n share first : ℕ) (v : UnlocksAnswer) (marks : List Bool) (remote local : Bool)
+    (j : TakesAs (takeUnlocks n share w none (places w first)) v marks remote local) where
+  abbrev ended : Outcome Written
+  ended = written h w out (takeUnlocks n share w none (places w first))
 
-  -- that is fine: the state left is written
-  pub unlocks-fine : j .answer ≡ unlocks·.Fine → written h w out (byUnlocks n share j) ≡ outcome true (stateLeft h w n share (j .taken)) out
-  unfolding byUnlocks byAnswer written
-  unlocks-fine e = rw e
-
-module _ (h : ℕ) (w out : List ℕ) (n share : ℕ) (r : TakenUnlocks) (v : UnlocksAnswer) (marks : List Bool) (remote local : Bool) (j : Told r v marks remote local) where
   -- row 5 or 6, and nothing is written
-  pub settled-refused : (k p : ℕ) → v ≡ unlocks·.Refused k p
-      → (written·.Refused k p ≡ written h w out (byUnlocks n share r) .answer) × (out ≡ written h w out (byUnlocks n share r) .bytes)
-  settled-refused k p e = unlocks-refused h w out n share r k p (sym (j .0) ∙ e)
+  pub settled-refused : (k p : ℕ) → v ≡ unlocks·.Refused k p → (written·.Refused k p ≡ ended .answer) × (out ≡ ended .bytes)
+  unfolding written
+  settled-refused k p e = let f = takes-faulty v marks remote local (unlocks-come n share w none (places w first)) j k p e in (rw f, rw f)
 
   module _ (e : v ≡ unlocks·.Fine) where
-    -- the state by the marks is the state by the list
-    settled-state : stateLeft h w n share (record { settled = marked marks; remote = remote; local = local }) ≡ stateLeft h w n share (r .taken)
-    unfolding stateLeft standing
-    settled-state = rw (keep-marked marks (r .taken .settled) (j .1 .0) 0 (records (recordLen h) n (drop 2 w)), j .1 .1 .0, j .1 .1 .1)
-
-    -- where every unlock is taken, the state left is written
-    settled-fine : written h w out (byUnlocks n share r) ≡ outcome true (stateLeft h w n share (record { settled = marked marks; remote = remote; local = local })) out
-    settled-fine = rw settled-state (unlocks-fine h w out n share r (sym (j .0) ∙ e))
+    -- the state by the marks is the state by the list; where every unlock is taken, it is written
+    settled-fine : ended ≡ outcome true (stateLeft h w n share (record { settled = marked marks; remote = remote; local = local })) out
+    unfolding written stateLeft standing
+    settled-fine = go (takes-all v marks remote local (unlocks-come n share w none (places w first)) j e)
+      where
+        go : All n share marks remote local (takeUnlocks n share w none (places w first))
+            → ended ≡ outcome true (stateLeft h w n share (record { settled = marked marks; remote = remote; local = local })) out
+        go t = rw (t .is, keep-marked marks (t .taken .settled) (t .says) 0 (records (recordLen h) n (drop 2 w)), t .remote-is, t .local-is)
 
     module _ (size : ℕ) (l : length (stateLeft h w n share (record { settled = marked marks; remote = remote; local = local })) ≡ size) where
       -- row 13, and nothing is written
-      pub settled-short : length out < size → (written·.Refused 13 size ≡ written h w out (byUnlocks n share r) .answer) × (out ≡ written h w out (byUnlocks n share r) .bytes)
+      pub settled-short : length out < size → (written·.Refused 13 size ≡ ended .answer) × (out ≡ ended .bytes)
       settled-short f = rw settled-fine (outcome-short true _ out refl size l f)
 
       -- all is written
       pub settled-written : size ≤ length out → (out′ : List ℕ) → out′ ≡ sets out 0 (stateLeft h w n share (record { settled = marked marks; remote = remote; local = local }))
-          → (written·.Bytes size ≡ written h w out (byUnlocks n share r) .answer) × (out′ ≡ written h w out (byUnlocks n share r) .bytes)
+          → (written·.Bytes size ≡ ended .answer) × (out′ ≡ ended .bytes)
       settled-written f out′ d = rw settled-fine (outcome-whole true _ out refl size l f out′ d)
 
 -- ---- the whole update
@@ -419,19 +434,40 @@ module _ (h : ℕ) (w out : List ℕ) where
   unfolding updated unlocked byRead written
   updated-refused k p e = (rw e, rw e)
 
-  -- a witness that is read whole
-  pub updated-whole : (n k share first : ℕ) → readWitness h w ≡ read·.Whole n k share first
-      → updated h w out ≡ written h w out (byUnlocks n (sharePlace h n) (takeUnlocks n w none (places w first)))
-  unfolding updated unlocked byRead written
-  updated-whole n k share first e = rw (e, ← read-fine h w n k share first e .tlcs)
-
-  -- and its unlocks: turned down, or the state left is written
   module _ (n k share first : ℕ) (e : readWitness h w ≡ read·.Whole n k share first) where
-    pub updated-turned : (r p : ℕ) → takeUnlocks n w none (places w first) .answer ≡ unlocks·.Refused r p → (written·.Refused r p ≡ updated h w out .answer) × (out ≡ updated h w out .bytes)
-    updated-turned r p f = rw (updated-whole n k share first e) (unlocks-refused h w out n (sharePlace h n) (takeUnlocks n w none (places w first)) r p f)
+    -- a witness that is read whole
+    updated-read : updated h w out ≡ written h w out (takeUnlocks n share w none (places w first))
+    unfolding updated unlocked byRead
+    updated-read = rw e
 
-    pub updated-fine : takeUnlocks n w none (places w first) .answer ≡ unlocks·.Fine → updated h w out ≡ outcome true (stateLeft h w n share (takeUnlocks n w none (places w first) .taken)) out
-    updated-fine f =
-        updated-whole n k share first e
-        ∙ unlocks-fine h w out n (sharePlace h n) (takeUnlocks n w none (places w first)) f
-        ∙ ap (λ (s : ℕ). outcome true (stateLeft h w n s (takeUnlocks n w none (places w first) .taken)) out) (sym (read-fine h w n k share first e .tlcs))
+    pub updated-whole : updated h w out ≡ written h w out (takeUnlocks n (sharePlace h n) w none (places w first))
+    updated-whole = rw (updated-read, ← read-fine h w n k share first e .tlcs)
+
+    -- and its unlocks: turned down, or the state left is written
+    pub updated-turned : (r p : ℕ) → takeUnlocks n share w none (places w first) ≡ faulty r p → (written·.Refused r p ≡ updated h w out .answer) × (out ≡ updated h w out .bytes)
+    unfolding written
+    updated-turned r p f = rw (updated-read, f) (refl, refl)
+
+    pub updated-fine : (t : Taken) → takeUnlocks n share w none (places w first) ≡ fine n share t → updated h w out ≡ outcome true (stateLeft h w n share t) out
+    unfolding written
+    updated-fine t f = rw (updated-read, f)
+
+-- ---- what was read is there
+
+-- of unlocks that are turned down nothing is said
+abbrev pub Takes : ℕ → List ℕ → Unlocked → Type 0
+Takes h w (fine n share t) = share + 72 ≤ length w
+Takes h w (faulty number place) = Unit {0}
+
+-- where all are taken, the witness has both shares
+pub unlocked-shares : (h : ℕ) (w : List ℕ) → Takes h w (unlocked h w)
+unfolding unlocked byRead
+unlocked-shares h w = go (readWitness h w) (witness·.fine h w)
+  where
+    took : {n share : ℕ} → share + 72 ≤ length w → {x : Unlocked} → Comes n share x → Takes h w x
+    took g (comes-fine t) = g
+    took g (comes-faulty number place z) = tt
+
+    go : (r : WitnessRead) → FineRead h w r → Takes h w (byRead w r)
+    go (read·.Whole n k share start) f = took (f .shares) (unlocks-come n share w none (places w start))
+    go (read·.Refused number place) f = tt

@@ -4,7 +4,7 @@ use Prim.Native.Nat.{ℕ, zero, suc, _+_, _-_, _*_, _/_, _≤_, _<_}
 use native.Mathlib.Nat.{add-zero, zero-add, zero-mul, suc-mul, mul-le-mul, mul-le-mul-right, div-mul-le-self, lt-div-mul-add}
 use native.Mathlib.Omega.{arith}
 use mathlib.Core.Path.{_≡_, refl, sym, ap, subst, _∙_}
-use mathlib.Core.Bool.{Bool, true, false, cond}
+use mathlib.Core.Bool.{true, false, cond}
 use mathlib.Core.List.{List, [], _∷_, _++_, append-assoc}
 use mathlib.Core.Logic.{⊎-elim}
 use lib.Dec.{ltb, leb, eqb}
@@ -20,7 +20,8 @@ use Rattle.fiber_types.proofs.RecordsLaws.{hash-len-small, at-least}
 use Rattle.fiber_types.proofs.RoundTrips.{unlock-read, unlock-refused}
 use Rattle.fiber_witness.specs.declared.witness.WitnessRead.{WitnessRead}
 use Rattle.fiber_witness.specs.declared.witness.WitnessRead.the-variants.{Whole, Refused}
-use Rattle.fiber_witness.specs.Witness.{recordLen, sharePlace, unlockLen, records, flat, stateBytes, member, placesWithin, places, unlessCut, readUnlocks, readShares, readTlcs, readWitness}
+use Rattle.fiber_witness.specs.Witness.{recordLen, unlockLen, records, flat, stateBytes, member, placesWithin, places, unlessCut, readUnlocks, readShares, readTlcs, readWitness}
+use Rattle.fiber_witness.specs.inner.Strided.{sharePlace}
 
 -- what is left of a count k of m, one step on
 pub left : (m k : ℕ) → k < m → m - k ≡ suc (m - (k + 1))
@@ -280,6 +281,12 @@ records-more size m l = refl
 pub data Even (k : ℕ) : List (List ℕ) → Type 0 where
   even-none : Even k []
   even-more : {r : List ℕ} {rs : List (List ℕ)} → length r ≡ k → Even k rs → Even k (r ∷ rs)
+
+-- one of records of k bytes
+pub even-at : {k : ℕ} {rs : List (List ℕ)} → Even k rs → (i : ℕ) → i < length rs → length (getD rs i []) ≡ k
+even-at even-none i g = absurd (omega arith)
+even-at (even-more e t) zero g = e
+even-at (even-more e t) (suc i) g = even-at t i (omega arith)
 
 -- their bytes in all
 pub flat-even : {k : ℕ} {rs : List (List ℕ)} → Even k rs → length (flat rs) ≡ length rs * k

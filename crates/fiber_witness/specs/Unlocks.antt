@@ -1,6 +1,6 @@
 -- The unlocks behind a state as a list, read by the layout of document 01's "Records" alone. The update reads them by their places in a
 -- witness (Witness.antt), and shares nothing with this reading; proofs/UnlocksLaws.antt ties the two.
-use Prim.Native.Nat.{ℕ, zero, suc, _+_}
+use Prim.Native.Nat.{ℕ, zero, suc}
 use mathlib.Core.Bool.{cond}
 use mathlib.Core.List.{List, [], _∷_}
 use lib.ListN.{length, getD, take, drop}
@@ -26,8 +26,3 @@ unlocksWithin (suc fuel) s =
 -- An unlock has more than one byte, so the length is fuel enough.
 unfoldable pub unlocksIn : List ℕ → Unlocks
 unlocksIn s = unlocksWithin (length s) s
-
--- where unlocks begin that stand one behind the other, the first at a place
-unfoldable pub beginnings : ℕ → List (List ℕ) → List ℕ
-beginnings at [] = []
-beginnings at (u ∷ us) = at ∷ beginnings (at + length u) us

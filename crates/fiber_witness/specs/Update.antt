@@ -5,11 +5,11 @@ use mathlib.Core.List.{List, [], _∷_}
 use lib.ListN.{getD, drop, replicate}
 use lib.Dec.{ltb, eqb}
 use Rattle.fiber_bytes.specs.Bytes.{part}
-use Rattle.fiber_types.specs.Records.{Outcome, refused, outcome}
+use Rattle.fiber_types.specs.declared.answer.Written.{Written}
+use Rattle.fiber_types.specs.declared.answer.Written.the-variants as written·
+use Rattle.fiber_types.specs.Records.{Outcome, unwritten, outcome}
 use Rattle.fiber_witness.specs.declared.witness.WitnessRead.{WitnessRead}
 use Rattle.fiber_witness.specs.declared.witness.WitnessRead.the-variants as read·
-use Rattle.fiber_witness.specs.declared.unlocks.UnlocksAnswer.{UnlocksAnswer}
-use Rattle.fiber_witness.specs.declared.unlocks.UnlocksAnswer.the-variants as unlocks·
 use Rattle.fiber_witness.specs.Witness.{recordLen, records, stateBytes, member, places, readWitness}
 
 -- ---- the unlocks, in order
@@ -23,25 +23,23 @@ pub record Taken : Type 0 where
 abbrev pub none : Taken
 none = record { settled = []; remote = false; local = false }
 
--- with what was taken up to the unlock that ends it
-pub record TakenUnlocks : Type 0 where
-  pub answer : UnlocksAnswer
-  pub taken : Taken
+-- what the unlocks of a witness take, of n TLCs and shares at a place, or the row that turns it down
+pub data Unlocked : Type 0 where
+  fine : ℕ → ℕ → Taken → Unlocked
+  faulty : ℕ → ℕ → Unlocked
 
 -- Unlocks at the places of w, of n TLCs. 0xFF is the local share and 0xFE the remote one, repeats allowed. Another byte is the place of a
 -- TLC in the list before any removal: 5 where there is none, 6 where it is settled already.
-unfoldable pub takeUnlocks : ℕ → List ℕ → Taken → List ℕ → TakenUnlocks
-takeUnlocks n w t [] = record { answer = unlocks·.Fine; taken = t }
-takeUnlocks n w t (p ∷ ps) =
+unfoldable pub takeUnlocks : ℕ → ℕ → List ℕ → Taken → List ℕ → Unlocked
+takeUnlocks n share w t [] = fine n share t
+takeUnlocks n share w t (p ∷ ps) =
     let byte = getD w p 0 in
-    let onLocal = takeUnlocks n w (record { settled = t .settled; remote = t .remote; local = true }) ps in
-    let onRemote = takeUnlocks n w (record { settled = t .settled; remote = true; local = t .local }) ps in
-    let onTlc = takeUnlocks n w (record { settled = byte ∷ t .settled; remote = t .remote; local = t .local }) ps in
+    let onLocal = takeUnlocks n share w (record { settled = t .settled; remote = t .remote; local = true }) ps in
+    let onRemote = takeUnlocks n share w (record { settled = t .settled; remote = true; local = t .local }) ps in
+    let onTlc = takeUnlocks n share w (record { settled = byte ∷ t .settled; remote = t .remote; local = t .local }) ps in
     cond (eqb byte 255) onLocal
     (cond (eqb byte 254) onRemote
-    (cond (ltb byte n)
-    (cond (member byte (t .settled)) (record { answer = unlocks·.Refused 6 p; taken = t }) onTlc)
-    (record { answer = unlocks·.Refused 5 p; taken = t })))
+    (cond (ltb byte n) (cond (member byte (t .settled)) (faulty 6 p) onTlc) (faulty 5 p)))
 
 -- ---- the state left
 
@@ -66,20 +64,8 @@ stateLeft h w n share t =
 
 -- ---- the update
 
--- what the unlocks of a witness take, of n TLCs and shares at a place, or the row that turns it down
-pub data Unlocked : Type 0 where
-  fine : ℕ → ℕ → Taken → Unlocked
-  faulty : ℕ → ℕ → Unlocked
-
-unfoldable pub byAnswer : ℕ → ℕ → Taken → UnlocksAnswer → Unlocked
-byAnswer n share t unlocks·.Fine = fine n share t
-byAnswer n share t (unlocks·.Refused number place) = faulty number place
-
-unfoldable pub byUnlocks : ℕ → ℕ → TakenUnlocks → Unlocked
-byUnlocks n share j = byAnswer n share (j .taken) (j .answer)
-
 unfoldable pub byRead : List ℕ → WitnessRead → Unlocked
-byRead w (read·.Whole n k share first) = byUnlocks n share (takeUnlocks n w none (places w first))
+byRead w (read·.Whole n k share first) = takeUnlocks n share w none (places w first)
 byRead w (read·.Refused number place) = faulty number place
 
 -- read, then take the unlocks in order
@@ -87,9 +73,9 @@ unfoldable pub unlocked : ℕ → List ℕ → Unlocked
 unlocked h w = byRead w (readWitness h w)
 
 -- the state left goes to the front of the output: 13 at its length where it has no room
-unfoldable pub written : ℕ → List ℕ → List ℕ → Unlocked → Outcome
+unfoldable pub written : ℕ → List ℕ → List ℕ → Unlocked → Outcome Written
 written h w out (fine n share t) = outcome true (stateLeft h w n share t) out
-written h w out (faulty number place) = refused number place out
+written h w out (faulty number place) = unwritten (written·.Refused number place) out
 
-unfoldable pub updated : ℕ → List ℕ → List ℕ → Outcome
+unfoldable pub updated : ℕ → List ℕ → List ℕ → Outcome Written
 updated h w out = written h w out (unlocked h w)

@@ -1,6 +1,6 @@
 -- What reading a settlement witness finds; document 01, "Witness", with rows 14 and 1 to 4 of its table.
 -- Unlock count 1 (never looked at), TLC count n 1, n TLCs, remote share, local share, unlocks to the end.
-use Prim.Native.Nat.{ℕ, zero, suc, _+_, _*_}
+use Prim.Native.Nat.{ℕ, zero, suc, _+_}
 use mathlib.Core.Bool.{Bool, true, false, cond}
 use mathlib.Core.List.{List, [], _∷_, _++_}
 use lib.ListN.{length, getD, take, drop}
@@ -14,10 +14,6 @@ use Rattle.fiber_witness.specs.declared.witness.WitnessRead.the-variants
 -- a TLC's record has 65 + h bytes, a share 36: key hash 20, amount 16
 abbrev pub recordLen : ℕ → ℕ
 recordLen h = 65 + h
-
--- the place of the share part, behind n TLCs
-abbrev pub sharePlace : ℕ → ℕ → ℕ
-sharePlace h n = 2 + n * recordLen h
 
 -- the bytes of the unlock at a place, which has a preimage exactly if its flag is 1
 abbrev pub unlockLen : List ℕ → ℕ → ℕ

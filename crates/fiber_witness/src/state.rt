@@ -1,6 +1,7 @@
 // The writer of a state, for the update and for what a choice hands out: the count, the records that are not marked, both shares.
 use crate::unlocks::no_marks;
 use crate::witness::SHARE;
+use crate::witness::SHARES;
 use fiber_bytes::put;
 use fiber_types::tlc::TLC_FIXED;
 ghost use mathlib.Core.Path.{_≡_};
@@ -106,12 +107,15 @@ pub fn put_state(
     requires { ⌜ k ≡ length (unmarked h (now source) from stride n marks) ⌝ }
     requires { ⌜ (length (now remote) ≡ 36) × (length (now local) ≡ 36) ⌝ }
     requires { ⌜ 73 + length (flat (unmarked h (now source) from stride n marks)) ≤ length (now out) ⌝ }
-    ensures { λ r. ⌜ r ≡ length (stateBytes (unmarked h (now (source .entry)) from stride n marks) (shareLeft «remote_unlocked» (now (remote .entry))) (shareLeft «local_unlocked» (now (local .entry)))) ⌝ }
-    ensures { λ _. ⌜ now (out .exit) ≡ sets (now (out .entry)) 0 (stateBytes (unmarked h (now (source .entry)) from stride n marks) (shareLeft «remote_unlocked» (now (remote .entry))) (shareLeft «local_unlocked» (now (local .entry)))) ⌝ }
+    ensures { λ r. ⌜ r ≡ length (stateBytes (unmarked h (now (source .entry)) from stride n marks)
+        (shareLeft «remote_unlocked» (now (remote .entry))) (shareLeft «local_unlocked» (now (local .entry)))) ⌝ }
+    ensures { λ _. ⌜ now (out .exit) ≡ sets (now (out .entry)) 0 (stateBytes
+        (unmarked h (now (source .entry)) from stride n marks) (shareLeft «remote_unlocked» (now (remote .entry)))
+        (shareLeft «local_unlocked» (now (local .entry)))) ⌝ }
 {
     out[0] = k as u8;
     let at = put_records(source, from, stride, h, n, marks, out);
     put_share(remote, remote_unlocked, out, at);
     put_share(local, local_unlocked, out, at + SHARE);
-    at + 72
+    at + SHARES
 }

@@ -8,7 +8,7 @@ ghost use lib.ListN.{length};
 ghost use Rattle.fiber_witness.specs.declared.unlocks.UnlocksAnswer.the-variants as unlocks·;
 ghost use Rattle.fiber_witness.specs.Witness.{places};
 ghost use Rattle.fiber_witness.specs.Update as S;
-ghost use Rattle.fiber_witness.specs.inner.Marks.{Marks, marked, noMarks};
+ghost use Rattle.fiber_witness.specs.inner.Marks.{marked, noMarks, TakesAs};
 
 // What taking the unlocks answers.
 pub enum UnlocksAnswer {
@@ -41,7 +41,7 @@ fn refused(
     remote: bool,
     local: bool,
 ) -> TakenUnlocks
-    ensures { λ r. ⌜ (r .answer ≡ unlocks·.Refused number place) × ((r .marks ≡ marks) × ((r .remote ≡ remote) × (r .local ≡ local))) ⌝ }
+    ensures { λ r. ⌜ r .answer ≡ unlocks·.Refused number place ⌝ }
 {
     TakenUnlocks {
         answer: UnlocksAnswer::Refused { number, place },
@@ -53,9 +53,8 @@ fn refused(
 
 // Takes the unlocks from first on, in order, of a witness with n TLCs.
 pub fn take_unlocks(w: &[u8], n: usize, first: usize) -> TakenUnlocks
-    ensures { λ r. ⌜ r .answer ≡ S.takeUnlocks n (now (w .entry)) S.none (places (now (w .entry)) first) .answer ⌝ }
-    ensures { λ r. ⌜ Marks (r .marks) (S.takeUnlocks n (now (w .entry)) S.none (places (now (w .entry)) first) .taken .settled) ⌝ }
-    ensures { λ r. ⌜ (r .remote ≡ S.takeUnlocks n (now (w .entry)) S.none (places (now (w .entry)) first) .taken .remote) × (r .local ≡ S.takeUnlocks n (now (w .entry)) S.none (places (now (w .entry)) first) .taken .local) ⌝ }
+    ensures { λ r. ⌜ ((share : ℕ) → TakesAs (S.takeUnlocks n share (now (w .entry)) S.none (places (now (w .entry)) first))
+        (r .answer) (r .marks) (r .remote) (r .local)) ⌝ }
 {
     let mut marks = no_marks();
     let mut remote = false;

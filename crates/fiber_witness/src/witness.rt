@@ -11,13 +11,19 @@ ghost use Rattle.fiber_witness.specs.Witness.{readUnlocks, readTlcs, rea
 // A share: key hash 20, amount 16.
 pub const SHARE: usize = 36;
 
+// Both of them.
+pub const SHARES: usize = 72;
+
+// A state's bytes beside its TLCs: the count and both shares.
+pub const STATE_FIXED: usize = 73;
+
 pub enum WitnessRead {
-    // n TLCs, the share part at share, and so many unlocks, the first at first.
+    // So many TLCs and unlocks; the places of the share part and of the first unlock.
     Whole {
         n: usize,
-        unlocks: usize,
-        share: usize,
-        first: usize,
+        unlock_count: usize,
+        share_place: usize,
+        first_unlock: usize,
     },
     // Turned down by a row of document 01's table.
     Refused {
@@ -31,7 +37,7 @@ fn read_unlocks(w: &[u8], n: usize, share: usize) -> WitnessRead
     requires { ⌜ share + 72 ≤ length (now w) ⌝ }
     ensures { λ r. ⌜ r ≡ readUnlocks (now (w .entry)) n share ⌝ }
 {
-    let first = share + 72;
+    let first = share + SHARES;
     let mut at = first;
     let mut unlocks = 0;
     while at < w.len() {
@@ -47,9 +53,9 @@ fn read_unlocks(w: &[u8], n: usize, share: usize) -> WitnessRead
     }
     WitnessRead::Whole {
         n,
-        unlocks,
-        share,
-        first,
+        unlock_count: unlocks,
+        share_place: share,
+        first_unlock: first,
     }
 }
 
@@ -67,7 +73,7 @@ fn read_tlcs(h: usize, w: &[u8], n: usize) -> WitnessRead
             place: 2 + whole * size,
         };
     }
-    if w.len() - share < 72 {
+    if w.len() - share < SHARES {
         return WitnessRead::Refused {
             number: 3,
             place: share,

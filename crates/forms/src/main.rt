@@ -1,8 +1,10 @@
 // Runs the two forms that are proved by hand beside what the core uses, on the inputs that `replay` has: the reader as a struct beside the cursor, and
-// stored preimages as a list of records beside the flat slice. Prints how many answers agree and how many differ; the file `stdout` has no difference.
+// stored preimages as a list of structs beside the flat slice. Prints how many answers agree and how many differ; the file `stdout` has no difference.
 // A program; uses the two forms, the upper face, what is below it, test_lines, and the toolchain's libraries for files.
 use fiber_bytes::part_of;
 use fiber_bytes::put;
+use fiber_choice::kinds::PAIR;
+use fiber_choice::kinds::TRACKED_FIXED;
 use fiber_types::tlc::valid_hash_len;
 use fiber_walk::preimage;
 use libc::STDOUT_FILENO;
@@ -18,7 +20,9 @@ use watchtower::witness::WitnessRead;
 ghost use mathlib.Core.Path.{_≡_};
 ghost use Prim.Native.Nat.{_≤_};
 ghost use lib.ListN.{length, take};
-ghost use Rattle.preimage_list.specs.PreimageList.{findIn};
+ghost use Rattle.fiber_choice.specs.Entries.{entries, pairLen};
+ghost use Rattle.fiber_choice.specs.Preimages.{findPair};
+ghost use Rattle.preimage_list.specs.PreimageList.{flatPairs};
 
 struct Count {
     agree: u64,
@@ -70,9 +74,9 @@ fn read_numbers(r: WitnessRead) -> [usize; 5] {
     match r {
         WitnessRead::Whole {
             n,
-            unlocks,
-            share,
-            first,
+            unlock_count: unlocks,
+            share_place: share,
+            first_unlock: first,
         } => [0, n, unlocks, share, first],
         WitnessRead::Refused { number, place } => [1, number, place, 0, 0],
     }
@@ -124,7 +128,7 @@ fn pairs_of(s: &[u8]) -> [Preimage; 16] {
     };
     let mut list = [none; 16];
     for i in 0..16 {
-        list[i] = pair_at(s, 64 * i);
+        list[i] = pair_at(s, PAIR * i);
     }
     list
 }
@@ -132,14 +136,14 @@ fn pairs_of(s: &[u8]) -> [Preimage; 16] {
 // The search among the first n of 16 records. Lends a slice of structs, so it is proved by hand.
 fn found_in_list(list: [Preimage; 16], n: usize, hash: [u8; 32]) -> Found
     requires { ⌜ n ≤ 16 ⌝ }
-    ensures { λ r. ⌜ r ≡ findIn 0 (take n list) hash ⌝ }
+    ensures { λ r. ⌜ r ≡ findPair 0 (entries pairLen (flatPairs (take n list))) hash ⌝ }
 {
     preimage_list::find_pair(&list[..n], hash)
 }
 
 // Whether the two searches find the same.
 fn searches_agree(preimages: &[u8], hash: &[u8]) -> bool {
-    let n = preimages.len() / 64;
+    let n = preimages.len() / PAIR;
     if 16 < n {
         return false;
     }
@@ -157,7 +161,7 @@ fn searched(c: Count, h: usize, tracked: &[u8], preimages: &[u8]) -> Count {
     let mut at = 0;
     while at < tracked.len() {
         count = counted(count, searches_agree(preimages, part_of(tracked, at, 32)));
-        at += 98 + h;
+        at += TRACKED_FIXED + h;
     }
     count
 }

@@ -1,6 +1,6 @@
 -- Laws of `specs/PreimageList.antt`: the search in a list of pairs and that in the flat slice of the same pairs agree, and so do their preimages.
 -- Assumes nothing.
-use Prim.Native.Nat.{ℕ, zero, suc, _+_, _/_, _≤_, _<_}
+use Prim.Native.Nat.{ℕ, zero, suc, _+_, _≤_, _<_}
 use native.Mathlib.Omega.{arith}
 use mathlib.Core.Path.{_≡_, refl, sym, ap, subst, _∙_}
 use mathlib.Core.Bool.{Bool, true, false, cond}
@@ -12,9 +12,16 @@ use Rattle.fiber_choice.specs.Preimages.{digest, findPair, countsAt}
 use Rattle.fiber_choice.specs.declared.kinds.Found.{Found}
 use Rattle.fiber_choice.specs.declared.kinds.Found.the-variants.{At, None}
 use Rattle.preimage_list.specs.declared.Preimage.{Preimage}
-use Rattle.preimage_list.specs.PreimageList.{findIn, flatPairs}
+use Rattle.preimage_list.specs.PreimageList.{flatPairs}
 use Rattle.fiber_choice.proofs.EntriesLaws.{entries-none, entries-append}
 use Rattle.fiber_choice.proofs.PreimagesLaws.{find-none, find-more, counts-by}
+
+-- the first pair with a hash; the first of the list is at place i
+unfoldable pub findIn : ℕ → List Preimage → List ℕ → Found
+findIn i [] h = None
+findIn i (p ∷ ps) h =
+    let next = findIn (i + 1) ps h in
+    cond (same (p .hash) h) (At i) next
 
 -- what stands past the end of a list of pairs
 abbrev pub noPair : Preimage

@@ -16,8 +16,7 @@ use Rattle.fiber_choice.specs.Entries.{same}
 use Rattle.fiber_choice.specs.declared.kinds.Found.{Found}
 use Rattle.fiber_choice.specs.declared.kinds.Found.the-variants.{At, None}
 use Rattle.preimage_list.specs.declared.Preimage.{Preimage}
-use Rattle.preimage_list.specs.PreimageList.{findIn}
-use Rattle.preimage_list.proofs.PreimageListLaws.{noPair}
+use Rattle.preimage_list.proofs.PreimageListLaws.{findIn, noPair}
 
 pub le-or-lt : (a b : ℕ) → (a ≤ b) ⊎ (b < a)
 le-or-lt zero b = inl zero-le

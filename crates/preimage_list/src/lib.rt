@@ -1,4 +1,4 @@
-// Stored preimages as a list of records: a lent slice of structs of two 32-byte arrays. `find_pair` is the one function that carries such a
+// Stored preimages as a list of structs: a lent slice, each struct two arrays of 32 bytes. `find_pair` is the one function that carries such a
 // slice, and is proved by hand; each comparison stands in a function on plain arrays. A form beside the upper face, for whoever lends such a
 // list; no crate of the core uses it, the program `forms` runs it. Uses the upper face and fiber_first.
 use fiber_first::entries::same;
@@ -8,7 +8,7 @@ ghost use mathlib.Core.Bool.{cond};
 ghost use lib.Dec.{ltb};
 ghost use Rattle.fiber_choice.specs.Entries as S;
 ghost use Rattle.fiber_choice.specs.declared.kinds.Found.the-variants as found·;
-ghost use Rattle.preimage_list.specs.PreimageList.{findIn, flatPairs};
+ghost use Rattle.preimage_list.specs.PreimageList.{flatPairs};
 ghost use Rattle.fiber_choice.specs.Preimages.{findPair};
 
 pub struct Preimage {
@@ -32,7 +32,7 @@ fn found(at: usize, n: usize) -> Found
 
 // The first pair with a hash: what the flat slice's search finds on the same pairs.
 pub fn find_pair(pairs: &[Preimage], hash: [u8; 32]) -> Found
-    ensures { λ r. ⌜ (r ≡ findIn 0 (now (pairs .entry)) hash) × (r ≡ findPair 0 (S.entries S.pairLen (flatPairs (now (pairs .entry)))) hash) ⌝ }
+    ensures { λ r. ⌜ r ≡ findPair 0 (S.entries S.pairLen (flatPairs (now (pairs .entry)))) hash ⌝ }
 {
     let mut end = pairs.len();
     let mut i = 0;

@@ -7,6 +7,7 @@ use fiber_bytes::le64;
 use fiber_bytes::part_of;
 use fiber_bytes::put;
 use fiber_bytes::put_le64;
+use fiber_first::entries::same;
 use libc::STDOUT_FILENO;
 use settlement_c::choose::fiber_settlement_choose;
 use settlement_c::first::fiber_test_data_witness;
@@ -236,19 +237,6 @@ fn answer_buffer() -> [u8; 152]
     ensures { λ r. ⌜ 152 ≡ length r ⌝ }
 {
     [165; 152]
-}
-
-// Whether two slices hold the same bytes.
-fn same(a: &[u8], b: &[u8]) -> bool {
-    if a.len() != b.len() {
-        return false;
-    }
-    for i in 0..a.len() {
-        if a[i] != b[i] {
-            return false;
-        }
-    }
-    true
 }
 
 // Whether the port answers as a packed line says: status, answer and output, with what is behind them as it was.

@@ -13,12 +13,14 @@ use lib.Seq.{sets, set-comm, take-all, take-suc, drop-cons, drop-drop}
 use borrow.Author.Tests.{lt-ltb, le-ltb}
 use Rattle.fiber_bytes.specs.Bytes.{part}
 use Rattle.fiber_bytes.proofs.BytesLaws.{either, sets-append}
+use Rattle.fiber_types.specs.declared.answer.Written.{Written}
 use Rattle.fiber_types.specs.declared.answer.Written.the-variants as written·
 use Rattle.fiber_types.specs.Records.{Outcome}
 use Rattle.fiber_witness.specs.Witness.{recordLen, records}
 use Rattle.fiber_witness.specs.Update.{updated}
 use Rattle.fiber_witness.proofs.LeftLaws as left·
-use Rattle.report.specs.Report.{digitsWithin, decimal, hexDigit, hex, hexHighest, hexBy, tlcLine, tlcLines, shareLine, refusedText, stateText, saidText, Report, afterUpdate, afterInput, reported, tlcsWord, tlcWord, remoteWord, localWord, refusedWord, atWord}
+use Rattle.report.specs.Report.{digitsWithin, decimal, hexDigit, hex, hexHighest, tlcLine, tlcLines, shareLine, refusedText, stateText, saidText, Report, afterUpdate, afterInput, reported, ascii}
+use Rattle.report.specs.inner.Hex.{hexBy}
 use Rattle.fiber_witness.proofs.WitnessLaws.{records-none, records-more}
 
 -- ---- writes, one behind the other
@@ -271,10 +273,10 @@ hex-part-short s at n {u} e =
     (h, omega (arith, hex-length u))
 
 -- five writes are the line of a TLC
-pub tlc-line : (o : List ℕ) (at i : ℕ) (r : List ℕ) {o₁ o₂ o₃ o₄ o₅ : List ℕ} {p₁ p₂ p₃ p₄ p₅ : ℕ} → Wrote o at tlcWord o₁ p₁ → Wrote o₁ p₁ (decimal i) o₂ p₂
+pub tlc-line : (o : List ℕ) (at i : ℕ) (r : List ℕ) {o₁ o₂ o₃ o₄ o₅ : List ℕ} {p₁ p₂ p₃ p₄ p₅ : ℕ} → Wrote o at (ascii "tlc ") o₁ p₁ → Wrote o₁ p₁ (decimal i) o₂ p₂
     → Wrote o₂ p₂ (32 ∷ []) o₃ p₃ → Wrote o₃ p₃ (hex r) o₄ p₄ → Wrote o₄ p₄ (10 ∷ []) o₅ p₅ → Wrote o at (tlcLine i r) o₅ p₅
 unfolding tlcLine
-tlc-line o at i r = five o at tlcWord (decimal i) (32 ∷ []) (hex r) (10 ∷ [])
+tlc-line o at i r = five o at (ascii "tlc ") (decimal i) (32 ∷ []) (hex r) (10 ∷ [])
 
 -- five writes are the line of a share
 pub share-line : (o : List ℕ) (at : ℕ) (word s : List ℕ) {u v o₁ o₂ o₃ o₄ o₅ : List ℕ} {p₁ p₂ p₃ p₄ p₅ : ℕ} → u ≡ part s 0 20 → v ≡ part s 20 16 → Wrote o at word o₁ p₁
@@ -283,10 +285,10 @@ unfolding shareLine
 share-line o at word s {u} {v} f g a b c d e = rw (← f, ← g) (five o at word (hex u) (32 ∷ []) (hexHighest v) (10 ∷ []) a b c d e)
 
 -- five writes say why the witness was turned down
-pub refused-text : (o : List ℕ) (number place : ℕ) {o₁ o₂ o₃ o₄ o₅ : List ℕ} {p₁ p₂ p₃ p₄ p₅ : ℕ} → Wrote o 0 refusedWord o₁ p₁ → Wrote o₁ p₁ (decimal number) o₂ p₂
-    → Wrote o₂ p₂ atWord o₃ p₃ → Wrote o₃ p₃ (decimal place) o₄ p₄ → Wrote o₄ p₄ (10 ∷ []) o₅ p₅ → Wrote o 0 (refusedText number place) o₅ p₅
+pub refused-text : (o : List ℕ) (number place : ℕ) {o₁ o₂ o₃ o₄ o₅ : List ℕ} {p₁ p₂ p₃ p₄ p₅ : ℕ} → Wrote o 0 (ascii "refused ") o₁ p₁ → Wrote o₁ p₁ (decimal number) o₂ p₂
+    → Wrote o₂ p₂ (ascii " at ") o₃ p₃ → Wrote o₃ p₃ (decimal place) o₄ p₄ → Wrote o₄ p₄ (10 ∷ []) o₅ p₅ → Wrote o 0 (refusedText number place) o₅ p₅
 unfolding refusedText
-refused-text o number place = five o 0 refusedWord (decimal number) atWord (decimal place) (10 ∷ [])
+refused-text o number place = five o 0 (ascii "refused ") (decimal number) (ascii " at ") (decimal place) (10 ∷ [])
 
 -- ---- the lines of the records
 
@@ -354,17 +356,17 @@ share-fits n h a b =
 
 -- six writes are the text of a state
 pub state-text : (o : List ℕ) (h : ℕ) (s : List ℕ) {u v o₁ o₂ o₃ o₄ o₅ o₆ : List ℕ} {p₁ p₂ p₃ p₄ p₅ p₆ : ℕ} → u ≡ part s (1 + getD s 0 0 * recordLen h) 36
-    → v ≡ part s (1 + getD s 0 0 * recordLen h + 36) 36 → Wrote o 0 tlcsWord o₁ p₁ → Wrote o₁ p₁ (decimal (getD s 0 0)) o₂ p₂ → Wrote o₂ p₂ (10 ∷ []) o₃ p₃
-    → Wrote o₃ p₃ (tlcLines 0 (records (recordLen h) (getD s 0 0) (take (length s - 1) (drop 1 s)))) o₄ p₄ → Wrote o₄ p₄ (shareLine remoteWord u) o₅ p₅
-    → Wrote o₅ p₅ (shareLine localWord v) o₆ p₆ → Wrote o 0 (stateText h s) o₆ p₆
+    → v ≡ part s (1 + getD s 0 0 * recordLen h + 36) 36 → Wrote o 0 (ascii "tlcs ") o₁ p₁ → Wrote o₁ p₁ (decimal (getD s 0 0)) o₂ p₂ → Wrote o₂ p₂ (10 ∷ []) o₃ p₃
+    → Wrote o₃ p₃ (tlcLines 0 (records (recordLen h) (getD s 0 0) (take (length s - 1) (drop 1 s)))) o₄ p₄ → Wrote o₄ p₄ (shareLine (ascii "remote ") u) o₅ p₅
+    → Wrote o₅ p₅ (shareLine (ascii "local ") v) o₆ p₆ → Wrote o 0 (stateText h s) o₆ p₆
 unfolding stateText
 state-text o h s {u} {v} f g a b c d e k =
     let n = getD s 0 0 in
     let lines = tlcLines 0 (records (recordLen h) n (drop 1 s)) in
     let d₁ = rw (tail s) at d in
     rw (← f, ← g)
-    (then-at o 0 (tlcsWord ++ decimal n ++ (10 ∷ []) ++ lines ++ shareLine remoteWord u) (shareLine localWord v)
-    (five o 0 tlcsWord (decimal n) (10 ∷ []) lines (shareLine remoteWord u) a b c d₁ e) k)
+    (then-at o 0 (ascii "tlcs " ++ decimal n ++ (10 ∷ []) ++ lines ++ shareLine (ascii "remote ") u) (shareLine (ascii "local ") v)
+    (five o 0 (ascii "tlcs ") (decimal n) (10 ∷ []) lines (shareLine (ascii "remote ") u) a b c d₁ e) k)
 
 -- ---- how long a text can be
 
@@ -414,8 +416,8 @@ text-short h s a b =
       arith,
       decimal-short (getD s 0 0),
       lines-short (recordLen h) (getD s 0 0) 0 (drop 1 s) b (omega arith),
-      share-line-short remoteWord (part s (1 + getD s 0 0 * recordLen h) 36),
-      share-line-short localWord (part s (1 + getD s 0 0 * recordLen h + 36) 36),
+      share-line-short (ascii "remote ") (part s (1 + getD s 0 0 * recordLen h) 36),
+      share-line-short (ascii "local ") (part s (1 + getD s 0 0 * recordLen h + 36) 36),
     ))
 
 -- ---- the report, by its input
@@ -445,7 +447,7 @@ module _ (input state out : List ℕ) where
   says-long f = says-untaken (rw (lt-ltb 65536 (length input) f))
 
   module _ (f : 1 ≤ length input) (g : length input ≤ 65536) (w : List ℕ) (e : w ≡ take (length input - 1) (drop 1 input)) where
-    abbrev done : Outcome
+    abbrev done : Outcome Written
     done = updated (getD input 0 0) w state
 
     taken : reported input state ≡ record { text = saidText (getD input 0 0) (done .bytes) (done .answer); state = done .bytes }

@@ -1,2 +1,3 @@
 -- What the report says.
 pub mod Report
+pub mod inner

@@ -1,6 +1,8 @@
 -- The text that the program `settle` prints; document 01, "Edges". Text is a list of character codes.
 use Prim.Native.Nat.{ℕ, zero, suc, _+_, _*_, _/_, _%_}
-use mathlib.Core.Bool.{Bool, cond}
+use Prim.Native.Char.{code}
+use Prim.Native.String.{String, [] as []ˢ, _∷_ as _∷ˢ_}
+use mathlib.Core.Bool.{cond}
 use mathlib.Core.List.{List, [], _∷_, _++_}
 use lib.ListN.{length, getD, take, drop}
 use lib.Dec.{ltb}
@@ -10,6 +12,11 @@ use Rattle.fiber_types.specs.declared.answer.Written.the-variants as written·
 use Rattle.fiber_types.specs.Records.{Outcome}
 use Rattle.fiber_witness.specs.Witness.{recordLen, records}
 use Rattle.fiber_witness.specs.Update.{updated}
+
+-- the character codes of a text
+abbrev pub ascii : String → List ℕ
+ascii []ˢ = []
+ascii (c ∷ˢ s) = code c ∷ ascii s
 
 -- ---- numbers
 
@@ -38,47 +45,11 @@ unfoldable pub hexHighest : List ℕ → List ℕ
 hexHighest [] = []
 hexHighest (b ∷ bs) = hexHighest bs ++ hex (b ∷ [])
 
--- in the bytes' order, or with the last byte first
-abbrev pub hexBy : Bool → List ℕ → List ℕ
-hexBy highest s = cond highest (hexHighest s) (hex s)
-
--- ---- words
-
-abbrev pub blank : ℕ
-blank = 32
-
-abbrev pub newline : ℕ
-newline = 10
-
--- "tlcs "
-abbrev pub tlcsWord : List ℕ
-tlcsWord = 116 ∷ (108 ∷ (99 ∷ (115 ∷ (blank ∷ []))))
-
--- "tlc "
-abbrev pub tlcWord : List ℕ
-tlcWord = 116 ∷ (108 ∷ (99 ∷ (blank ∷ [])))
-
--- "remote "
-abbrev pub remoteWord : List ℕ
-remoteWord = 114 ∷ (101 ∷ (109 ∷ (111 ∷ (116 ∷ (101 ∷ (blank ∷ []))))))
-
--- "local "
-abbrev pub localWord : List ℕ
-localWord = 108 ∷ (111 ∷ (99 ∷ (97 ∷ (108 ∷ (blank ∷ [])))))
-
--- "refused "
-abbrev pub refusedWord : List ℕ
-refusedWord = 114 ∷ (101 ∷ (102 ∷ (117 ∷ (115 ∷ (101 ∷ (100 ∷ (blank ∷ [])))))))
-
--- " at "
-abbrev pub atWord : List ℕ
-atWord = blank ∷ (97 ∷ (116 ∷ (blank ∷ [])))
-
 -- ---- lines
 
 -- a TLC, with its place in the updated list
 unfoldable pub tlcLine : ℕ → List ℕ → List ℕ
-tlcLine i r = tlcWord ++ decimal i ++ (blank ∷ []) ++ hex r ++ (newline ∷ [])
+tlcLine i r = ascii "tlc " ++ decimal i ++ ascii " " ++ hex r ++ ascii "\n"
 
 unfoldable pub tlcLines : ℕ → List (List ℕ) → List ℕ
 tlcLines i [] = []
@@ -86,22 +57,22 @@ tlcLines i (r ∷ rs) = tlcLine i r ++ tlcLines (i + 1) rs
 
 -- a share: key hash, and the amount as 32 digits
 unfoldable pub shareLine : List ℕ → List ℕ → List ℕ
-shareLine word s = word ++ hex (part s 0 20) ++ (blank ∷ []) ++ hexHighest (part s 20 16) ++ (newline ∷ [])
+shareLine word s = word ++ hex (part s 0 20) ++ ascii " " ++ hexHighest (part s 20 16) ++ ascii "\n"
 
 unfoldable pub refusedText : ℕ → ℕ → List ℕ
-refusedText number place = refusedWord ++ decimal number ++ atWord ++ decimal place ++ (newline ∷ [])
+refusedText number place = ascii "refused " ++ decimal number ++ ascii " at " ++ decimal place ++ ascii "\n"
 
 -- a state of a channel whose hashes have h bytes
 unfoldable pub stateText : ℕ → List ℕ → List ℕ
 stateText h s =
     let n = getD s 0 0 in
     let share = 1 + n * recordLen h in
-    tlcsWord
+    ascii "tlcs "
     ++ decimal n
-    ++ (newline ∷ [])
+    ++ ascii "\n"
     ++ tlcLines 0 (records (recordLen h) n (drop 1 s))
-    ++ shareLine remoteWord (part s share 36)
-    ++ shareLine localWord (part s (share + 36) 36)
+    ++ shareLine (ascii "remote ") (part s share 36)
+    ++ shareLine (ascii "local ") (part s (share + 36) 36)
 
 -- ---- the report
 
@@ -114,7 +85,7 @@ pub record Report : Type 0 where
   pub text : List ℕ
   pub state : List ℕ
 
-unfoldable pub afterUpdate : ℕ → Outcome → Report
+unfoldable pub afterUpdate : ℕ → Outcome Written → Report
 afterUpdate h o = record { text = saidText h (o .bytes) (o .answer); state = o .bytes }
 
 unfoldable pub afterInput : List ℕ → List ℕ → Report

@@ -7,14 +7,17 @@
 use fiber_bytes::part_of;
 use fiber_bytes::put;
 use fiber_types::answer::Written;
+use fiber_types::tlc::TLC_FIXED;
 use watchtower::update::update;
+use watchtower::witness::SHARE;
 ghost use mathlib.Core.Path.{_≡_};
 ghost use mathlib.Core.List.{[], _∷_};
-ghost use Prim.Native.Nat.{ℕ, _+_, _*_, _≤_, _<_};
+ghost use Prim.Native.Nat.{_+_, _*_, _≤_, _<_};
 ghost use lib.ListN.{length, getD, set};
 ghost use lib.Seq.{sets};
 ghost use Rattle.fiber_witness.specs.Witness.{recordLen, records};
 ghost use Rattle.report.specs.Report as S;
+ghost use Rattle.report.specs.inner.Hex.{hexBy};
 
 fn put_byte(out: &mut [u8], at: usize, b: u8)
     ensures { λ _. ⌜ now (out .exit) ≡ set (now (out .entry)) at b ⌝ }
@@ -52,8 +55,8 @@ fn put_hex_byte(out: &mut [u8], at: usize, b: u8)
 // Two digits to a byte, in the bytes' order, or with the last byte first, which is a number's highest.
 fn put_hex(out: &mut [u8], at: usize, src: &[u8], highest: bool) -> usize
     requires { ⌜ (at ≤ 1000000) × (length (now src) ≤ 1000) ⌝ }
-    ensures { λ r. ⌜ r ≡ at + length (S.hexBy highest (now (src .entry))) ⌝ }
-    ensures { λ _. ⌜ now (out .exit) ≡ sets (now (out .entry)) at (S.hexBy highest (now (src .entry))) ⌝ }
+    ensures { λ r. ⌜ r ≡ at + length (hexBy highest (now (src .entry))) ⌝ }
+    ensures { λ _. ⌜ now (out .exit) ≡ sets (now (out .entry)) at (hexBy highest (now (src .entry))) ⌝ }
 {
     let n = src.len();
     for i in 0..n {
@@ -150,15 +153,15 @@ fn put_state(out: &mut [u8], h: usize, state: &[u8]) -> usize
     ensures { λ r. ⌜ r ≡ length (S.stateText h (now (state .entry))) ⌝ }
     ensures { λ _. ⌜ now (out .exit) ≡ sets (now (out .entry)) 0 (S.stateText h (now (state .entry))) ⌝ }
 {
-    let size = 65 + h;
+    let size = TLC_FIXED + h;
     let n = state[0] as usize;
     let share = 1 + n * size;
     let count = put_word(out, 0, b"tlcs ");
     let behind = put_decimal(out, count, n);
     let first = put_word(out, behind, b"\n");
     let remote = put_tlc_lines(out, first, &state[1..], n, size);
-    let local = put_share_line(out, remote, b"remote ", part_of(state, share, 36));
-    put_share_line(out, local, b"local ", part_of(state, share + 36, 36))
+    let local = put_share_line(out, remote, b"remote ", part_of(state, share, SHARE));
+    put_share_line(out, local, b"local ", part_of(state, share + SHARE, SHARE))
 }
 
 // Reads one byte h and a witness, updates it into the buffer state, and writes to out what `settle` prints of it; answers

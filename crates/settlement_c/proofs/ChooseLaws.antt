@@ -1,4 +1,4 @@
--- Laws of `specs/Choose.antt`: the numbers of a choice, of a key and of a delay.
+-- Laws of `specs/Choose.antt` and `specs/inner/Numbers.antt`: the numbers of a choice, of a key and of a delay.
 -- Assumes nothing.
 use Prim.Native.Nat.{ℕ}
 use mathlib.Core.Path.{_≡_, refl}
@@ -12,7 +12,8 @@ use Rattle.fiber_choice.specs.declared.kinds.Key.the-variants as key·
 use Rattle.fiber_choice.specs.declared.kinds.Delay.{Delay}
 use Rattle.fiber_choice.specs.declared.kinds.Delay.the-variants as delay·
 use Rattle.fiber_choice.proofs.ByteLaws.{byte-remote, byte-local, byte-tlc}
-use Rattle.settlement_c.specs.Choose.{kindNumber, pairNumber, choiceNumbers, keyNumbers, delayNumbers}
+use Rattle.settlement_c.specs.Choose.{kindNumber, pairNumber, keyNumbers, delayNumbers}
+use Rattle.settlement_c.specs.inner.Numbers.{choiceNumbers}
 
 pub numbers-remote : choiceNumbers (choice·.Share side·.Remote) ≡ 0 ∷ (254 ∷ (0 ∷ []))
 unfolding choiceNumbers kindNumber pairNumber

@@ -12,10 +12,11 @@ use Rattle.fiber_choice.specs.declared.kinds.Delay.the-variants as delay·
 use Rattle.fiber_choice.specs.declared.kinds.Decision.{Decision}
 use Rattle.fiber_choice.specs.declared.kinds.ChoiceAnswer.{ChoiceAnswer}
 use Rattle.fiber_choice.specs.declared.kinds.ChoiceAnswer.the-variants as answer·
+use Rattle.fiber_bytes.specs.Bytes.{numbers}
 use Rattle.fiber_choice.specs.Request.{requestOf}
 use Rattle.fiber_choice.specs.HandedOut.{choiceByte}
 use Rattle.fiber_choice.specs.Choice.{choiceOf}
-use Rattle.types_c.specs.Answers.{Answer, refused, fields, OutCall, numbers, call}
+use Rattle.types_c.specs.Answers.{Answer, refused, fields, OutCall, call}
 
 -- ---- sixteen numbers
 
@@ -30,9 +31,6 @@ unfoldable pub pairNumber : Choice → ℕ
 pairNumber (choice·.Share side) = 0
 pairNumber (choice·.Tlc place way·.Timeout) = 0
 pairNumber (choice·.Tlc place (way·.Preimage pair)) = pair
-
-unfoldable pub choiceNumbers : Choice → List ℕ
-choiceNumbers choice = kindNumber choice ∷ (choiceByte choice ∷ (pairNumber choice ∷ []))
 
 -- 0 and 0 for our settlement key, 1 and a place for that of a settlement TLC
 unfoldable pub keyNumbers : Key → List ℕ
@@ -50,13 +48,11 @@ decisionNumbers d =
     (kindNumber (d .choice) ∷ (choiceByte (d .choice) ∷ (d .amount .low ∷ (d .amount .high ∷ []))))
     ++ keyNumbers (d .key)
     ++ delayNumbers (d .delay)
-    ++ (d .place ∷ (d .len ∷ (d .unlock ∷ (d .state ∷ (d .args ∷ (pairNumber (d .choice) ∷ []))))))
+    ++ (d .place ∷ (d .len ∷ (d .«unlock_len» ∷ (d .«state_len» ∷ (d .«args_len» ∷ (pairNumber (d .choice) ∷ []))))))
 
 -- ---- the call
 
-abbrev pub chooseAnswerLen : ℕ
-chooseAnswerLen = 144
-
+-- 144 bytes: behind the front the sixteen numbers
 unfoldable pub chooseAnswer : ChoiceAnswer → Answer
 chooseAnswer (answer·.Chosen d) = fields (numbers (decisionNumbers d))
 chooseAnswer (answer·.Wait number place) = refused number place
@@ -75,4 +71,4 @@ chooseCall h forRemote isLater time headerNumber headerIndex headerLength curren
       «local_amount» = record { low = localLow; high = localHigh };
       «remote_amount» = record { low = remoteLow; high = remoteHigh };
     }) args tlcs localKey remoteKey tracked preimages) isLater witness out in
-    call chooseAnswerLen (chooseAnswer (o .answer)) (o .bytes) out buffer
+    call 144 (chooseAnswer (o .answer)) (o .bytes) out buffer

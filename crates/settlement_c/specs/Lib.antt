@@ -1,3 +1,4 @@
 -- What the exports answer and write.
 pub mod Choose
 pub mod Settlement
+pub mod inner

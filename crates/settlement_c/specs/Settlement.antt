@@ -4,40 +4,35 @@ use mathlib.Core.Bool.{Bool}
 use mathlib.Core.List.{List, [], _∷_}
 use Rattle.fiber_types.specs.declared.answer.Written.{Written}
 use Rattle.fiber_types.specs.declared.answer.Written.the-variants as written·
+use Rattle.fiber_bytes.specs.Bytes.{numbers}
 use Rattle.fiber_types.specs.Records.{Outcome}
 use Rattle.fiber_witness.specs.declared.witness.WitnessRead.{WitnessRead}
 use Rattle.fiber_witness.specs.declared.witness.WitnessRead.the-variants as read·
 use Rattle.fiber_witness.specs.Witness.{readWitness}
 use Rattle.fiber_witness.specs.Update.{updated}
 use Rattle.fiber_choice.specs.FirstRecords.{wroteFirstTlc, wroteFirst}
-use Rattle.types_c.specs.Answers.{Answer, refused, fields, numbers, call, answerCall}
+use Rattle.types_c.specs.Answers.{Answer, refused, fields, call}
 pub use Rattle.types_c.specs.Answers.{OutCall}
 
 -- ---- the reader
 
--- n, the number of unlocks, the places of the share part and of the first unlock
-abbrev pub readAnswerLen : ℕ
-readAnswerLen = 48
-
+-- 48 bytes: behind the front n, the number of unlocks, the places of the share part and of the first unlock
 unfoldable pub readAnswer : WitnessRead → Answer
 readAnswer (read·.Whole n unlocks share first) = fields (numbers (n ∷ (unlocks ∷ (share ∷ (first ∷ [])))))
 readAnswer (read·.Refused number place) = refused number place
 
 unfoldable pub readCall : ℕ → List ℕ → List ℕ → OutCall
-readCall h w buffer = answerCall readAnswerLen (readAnswer (readWitness h w)) buffer
+readCall h w buffer = call 48 (readAnswer (readWitness h w)) [] [] buffer
 
 -- ---- the writers: update, and first records
 
--- the length that was written
-abbrev pub updateAnswerLen : ℕ
-updateAnswerLen = 24
-
+-- 24 bytes: behind the front the length that was written
 unfoldable pub writtenAnswer : Written → Answer
 writtenAnswer (written·.Bytes len) = fields (numbers (len ∷ []))
 writtenAnswer (written·.Refused number place) = refused number place
 
-unfoldable pub writtenCall : Outcome → List ℕ → List ℕ → OutCall
-writtenCall o out buffer = call updateAnswerLen (writtenAnswer (o .answer)) (o .bytes) out buffer
+unfoldable pub writtenCall : Outcome Written → List ℕ → List ℕ → OutCall
+writtenCall o out buffer = call 24 (writtenAnswer (o .answer)) (o .bytes) out buffer
 
 unfoldable pub updateCall : ℕ → List ℕ → List ℕ → List ℕ → OutCall
 updateCall h w out buffer = writtenCall (updated h w out) out buffer

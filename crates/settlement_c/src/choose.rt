@@ -14,15 +14,16 @@ use watchtower::choice::Side;
 use watchtower::choice::Way;
 ghost use mathlib.Core.Path.{_≡_};
 ghost use mathlib.Core.List.{[]};
-ghost use Rattle.types_c.specs.Answers.{answered, Leaves, LeavesAnswer};
+ghost use Rattle.types_c.specs.Answers.{answered, Leaves};
 ghost use Rattle.settlement_c.specs.Choose as S;
+ghost use Rattle.settlement_c.specs.inner.Numbers as I;
 
 // The bytes that the answer takes.
 pub const CHOOSE_ANSWER: usize = 144;
 
 // What the choice is: 0 a share, 1 a TLC by timeout, 2 a TLC by a preimage; the unlock's byte; the pair's place.
 fn choice_numbers(choice: Choice) -> [u64; 3]
-    ensures { λ r. ⌜ r ≡ S.choiceNumbers choice ⌝ }
+    ensures { λ r. ⌜ r ≡ I.choiceNumbers choice ⌝ }
 {
     match choice {
         Choice::Share(side) => match side {
@@ -79,15 +80,15 @@ fn decision_numbers(decision: Decision) -> [u64; 16]
         d[3],
         decision.place as u64,
         decision.len as u64,
-        decision.unlock as u64,
-        decision.state as u64,
-        decision.args as u64,
+        decision.unlock_len as u64,
+        decision.state_len as u64,
+        decision.args_len as u64,
         c[2],
     ]
 }
 
 fn answer_choice(answer: &mut [u8], choice: ChoiceAnswer) -> u64
-    ensures { λ r. ⌜ LeavesAnswer (answered (S.chooseAnswer choice) [] (now (answer .entry))) r (now (answer .exit)) ⌝ }
+    ensures { λ r. ⌜ Leaves (answered (S.chooseAnswer choice) [] (now (answer .entry))) r [] (now (answer .exit)) ⌝ }
 {
     match choice {
         ChoiceAnswer::Chosen(decision) => accept(answer, &decision_numbers(decision)),

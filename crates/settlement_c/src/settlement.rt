@@ -6,7 +6,8 @@ use types_c::front::refuse;
 use watchtower::update;
 use watchtower::witness;
 use watchtower::witness::WitnessRead;
-ghost use Rattle.types_c.specs.Answers.{Leaves, LeavesAnswer};
+ghost use mathlib.Core.List.{[]};
+ghost use Rattle.types_c.specs.Answers.{Leaves};
 ghost use Rattle.settlement_c.specs.Settlement as S;
 
 // The bytes that the reader's answer takes.
@@ -15,7 +16,7 @@ pub const READ_ANSWER: usize = 48;
 // Reads a witness w of a channel whose hashes have h bytes.
 #[no_mangle]
 pub extern "C" fn fiber_settlement_read(h: u64, w: &[u8], answer: &mut [u8]) -> u64
-    ensures { λ r. ⌜ LeavesAnswer (S.readCall h (now (w .entry)) (now (answer .entry))) r (now (answer .exit)) ⌝ }
+    ensures { λ r. ⌜ Leaves (S.readCall h (now (w .entry)) (now (answer .entry))) r [] (now (answer .exit)) ⌝ }
 {
     if answer.len() < READ_ANSWER {
         return 14;
@@ -23,9 +24,9 @@ pub extern "C" fn fiber_settlement_read(h: u64, w: &[u8], answer: &mut [u8]) -> 
     match witness::read(h as usize, w) {
         WitnessRead::Whole {
             n,
-            unlocks,
-            share,
-            first,
+            unlock_count: unlocks,
+            share_place: share,
+            first_unlock: first,
         } => accept(
             answer,
             &[n as u64, unlocks as u64, share as u64, first as u64],

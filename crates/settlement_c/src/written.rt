@@ -3,14 +3,14 @@ use fiber_types::answer::Written;
 use types_c::front::accept;
 use types_c::front::refuse;
 ghost use mathlib.Core.List.{[]};
-ghost use Rattle.types_c.specs.Answers.{answered, LeavesAnswer};
+ghost use Rattle.types_c.specs.Answers.{answered, Leaves};
 ghost use Rattle.settlement_c.specs.Settlement as S;
 
 // The bytes that it takes.
 pub const UPDATE_ANSWER: usize = 24;
 
 pub fn answer_written(answer: &mut [u8], written: Written) -> u64
-    ensures { λ r. ⌜ LeavesAnswer (answered (S.writtenAnswer written) [] (now (answer .entry))) r (now (answer .exit)) ⌝ }
+    ensures { λ r. ⌜ Leaves (answered (S.writtenAnswer written) [] (now (answer .entry))) r [] (now (answer .exit)) ⌝ }
 {
     match written {
         Written::Bytes(len) => accept(answer, &[len as u64]),

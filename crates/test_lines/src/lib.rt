@@ -2,7 +2,7 @@
 // Uses nothing.
 use std::num::wrapping_add_u64;
 ghost use mathlib.Core.Path.{_≡_};
-ghost use Prim.Native.Nat.{ℕ, max, _+_, _*_, _/_, _%_, _^_, _≤_};
+ghost use Prim.Native.Nat.{max, _+_, _*_, _/_, _%_, _^_, _≤_};
 ghost use lib.ListN.{length};
 ghost use lib.Seq.{sets};
 ghost use Rattle.test_lines.specs.Lines as S;

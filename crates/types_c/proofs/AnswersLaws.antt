@@ -1,19 +1,18 @@
 -- Laws of `specs/Answers.antt`: numbers one behind the other, and a call by its answer.
 -- Assumes nothing.
-use Prim.Native.Nat.{ℕ, suc, _+_, _*_, _≤_, _<_}
-use native.Mathlib.Numerals.{add-one}
+use Prim.Native.Nat.{ℕ, _+_, _≤_, _<_}
 use native.Mathlib.Omega.{arith}
-use mathlib.Core.Path.{_≡_, refl, sym, ap}
+use mathlib.Core.Path.{_≡_, refl, sym}
 use mathlib.Core.List.{List, [], _++_}
-use lib.ListN.{length, getD, drop, drop-of-length-le, length-append}
-use lib.Seq.{sets, drop-cons}
+use lib.ListN.{length, length-append}
+use lib.Seq.{sets}
 use borrow.Author.Tests.{lt-ltb, le-ltb}
 use Rattle.fiber_bytes.specs.Bytes.{leBytes}
-use Rattle.fiber_bytes.proofs.BytesLaws.{leBytes-length, sets-append, sets-then}
+use Rattle.fiber_bytes.proofs.BytesLaws.{leBytes-length, sets-then}
 use Rattle.fiber_types.specs.declared.key.KeyAnswer.{KeyAnswer}
 use Rattle.fiber_types.specs.declared.key.KeyHash.{KeyHash}
 use Rattle.fiber_types.specs.Key.{keyHash}
-use Rattle.types_c.specs.Answers.{Answer, refused, fields, answered, call, Leaves, LeavesAnswer, numbers, keyAnswer}
+use Rattle.types_c.specs.Answers.{Answer, refused, fields, answered, call, Leaves, keyAnswer}
 
 -- ---- one number behind the other
 
@@ -30,27 +29,14 @@ module _ (o : List ℕ) where
       → o₂ ≡ sets o 0 ((leBytes 8 0 ++ leBytes 8 0) ++ bytes)
   behind bytes e f = sets-then o (leBytes 8 0 ++ leBytes 8 0) bytes 16 e f (sym (pair-length 0 0))
 
--- one number more is written, at its place
-pub numbers-more : (l ns : List ℕ) (at i place : ℕ) → i < length ns → place ≡ at + 8 * i
-    → sets (sets l place (leBytes 8 (getD ns i 0))) (at + 8 * (i + 1)) (numbers (drop (i + 1) ns)) ≡ sets l (at + 8 * i) (numbers (drop i ns))
-unfolding numbers
-numbers-more l ns at i place h f =
-    let e : at + 8 * (i + 1) ≡ at + 8 * i + length (leBytes 8 (getD ns i 0)) = omega (arith, leBytes-length 8 (getD ns i 0)) in
-    rw (f, drop-cons ns i 0 h, e, add-one) (sym (sets-append (leBytes 8 (getD ns i 0)) (numbers (drop (suc i) ns)) l (at + 8 * i)))
-
--- all are
-pub numbers-end : (l ns : List ℕ) (at i : ℕ) → length ns ≤ i → sets l (at + 8 * i) (numbers (drop i ns)) ≡ l
-unfolding numbers
-numbers-end l ns at i h = rw (drop-of-length-le ns h)
-
 -- ---- an answer given
 
 pub refused-by : (number place : ℕ) (buffer : List ℕ) {b : List ℕ} → b ≡ sets buffer 0 (leBytes 8 number ++ leBytes 8 place)
-    → LeavesAnswer (answered (refused number place) [] buffer) number b
+    → Leaves (answered (refused number place) [] buffer) number [] b
 unfolding answered
 refused-by number place buffer e = rw e
 
-pub fields-by : (bytes buffer : List ℕ) {b : List ℕ} → b ≡ sets buffer 0 ((leBytes 8 0 ++ leBytes 8 0) ++ bytes) → LeavesAnswer (answered (fields bytes) [] buffer) 0 b
+pub fields-by : (bytes buffer : List ℕ) {b : List ℕ} → b ≡ sets buffer 0 ((leBytes 8 0 ++ leBytes 8 0) ++ bytes) → Leaves (answered (fields bytes) [] buffer) 0 [] b
 unfolding answered
 fields-by bytes buffer e = rw e
 
@@ -68,7 +54,7 @@ call-short size a written out buffer h = rw (lt-ltb (length buffer) size h)
 
 -- the operation came to x, its answer was given, and the output is the operation's
 pub call-by : {X : Type 0} (size : ℕ) (answer : X → Answer) (x : X) (written out buffer : List ℕ) → size ≤ length buffer → (y : X) → y ≡ x
-    → {r : ℕ} {o b : List ℕ} → LeavesAnswer (answered (answer y) [] buffer) r b → o ≡ written → Leaves (call size (answer x) written out buffer) r o b
+    → {r : ℕ} {o b : List ℕ} → Leaves (answered (answer y) [] buffer) r [] b → o ≡ written → Leaves (call size (answer x) written out buffer) r o b
 unfolding call
 call-by size answer x written out buffer h y e g f = rw (le-ltb (length buffer) size h, ← e, answered-out (answer y) written buffer, g, f)
 

@@ -4,6 +4,7 @@ ghost use mathlib.Core.Path.{_≡_};
 ghost use mathlib.Core.List.{_++_, []};
 ghost use lib.Seq.{sets};
 ghost use Rattle.fiber_bytes.specs.Bytes.{leBytes};
+ghost use Rattle.fiber_bytes.specs.Bytes as B;
 ghost use Rattle.types_c.specs.Answers as S;
 
 // Number and place, the front of every answer.
@@ -16,7 +17,7 @@ pub fn put_front(answer: &mut [u8], number: u64, place: u64)
 
 // Refused; gives the return value, as accept does.
 pub fn refuse(answer: &mut [u8], number: usize, place: usize) -> u64
-    ensures { λ r. ⌜ S.LeavesAnswer (S.answered (S.refused number place) [] (now (answer .entry))) r (now (answer .exit)) ⌝ }
+    ensures { λ r. ⌜ S.Leaves (S.answered (S.refused number place) [] (now (answer .entry))) r [] (now (answer .exit)) ⌝ }
 {
     put_front(answer, number as u64, place as u64);
     number as u64
@@ -24,7 +25,7 @@ pub fn refuse(answer: &mut [u8], number: usize, place: usize) -> u64
 
 // Done, with fields of eight bytes each.
 pub fn accept(answer: &mut [u8], numbers: &[u64]) -> u64
-    ensures { λ r. ⌜ S.LeavesAnswer (S.answered (S.fields (S.numbers (now (numbers .entry)))) [] (now (answer .entry))) r (now (answer .exit)) ⌝ }
+    ensures { λ r. ⌜ S.Leaves (S.answered (S.fields (B.numbers (now (numbers .entry)))) [] (now (answer .entry))) r [] (now (answer .exit)) ⌝ }
 {
     put_front(answer, 0, 0);
     for i in 0..numbers.len() {

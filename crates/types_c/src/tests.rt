@@ -13,6 +13,7 @@ use fiber_types::key::key_hash;
 use fiber_types::since::Expiry;
 use fiber_types::since::absolute_expiry;
 ghost use mathlib.Core.Path.{_≡_};
+ghost use mathlib.Core.List.{[]};
 ghost use Rattle.fiber_blake2b.specs.Blake2b.{ckbHash};
 ghost use Rattle.fiber_sha256.specs.Sha256 as Sha256;
 ghost use Rattle.types_c.specs.Answers as S;
@@ -50,7 +51,7 @@ pub extern "C" fn fiber_test_mul(
     denominator: u64,
     answer: &mut [u8],
 ) -> u64
-    ensures { λ r. ⌜ S.LeavesAnswer (S.mulCall number index length numerator denominator (now (answer .entry))) r (now (answer .exit)) ⌝ }
+    ensures { λ r. ⌜ S.Leaves (S.mulCall number index length numerator denominator (now (answer .entry))) r [] (now (answer .exit)) ⌝ }
 {
     if answer.len() < MUL_ANSWER {
         return 14;
@@ -80,7 +81,7 @@ pub extern "C" fn fiber_test_is_due(
     i: u64,
     answer: &mut [u8],
 ) -> u64
-    ensures { λ r. ⌜ S.LeavesAnswer (S.isDueCall a b c d e f g h i (now (answer .entry))) r (now (answer .exit)) ⌝ }
+    ensures { λ r. ⌜ S.Leaves (S.isDueCall a b c d e f g h i (now (answer .entry))) r [] (now (answer .exit)) ⌝ }
 {
     if answer.len() < IS_DUE_ANSWER {
         return 14;
@@ -110,7 +111,7 @@ pub extern "C" fn fiber_test_is_due(
 // The expiry that a since value holds.
 #[no_mangle]
 pub extern "C" fn fiber_test_absolute_expiry(since: u64, answer: &mut [u8]) -> u64
-    ensures { λ r. ⌜ S.LeavesAnswer (S.expiryCall since (now (answer .entry))) r (now (answer .exit)) ⌝ }
+    ensures { λ r. ⌜ S.Leaves (S.expiryCall since (now (answer .entry))) r [] (now (answer .exit)) ⌝ }
 {
     if answer.len() < EXPIRY_ANSWER {
         return 14;
@@ -124,7 +125,7 @@ pub extern "C" fn fiber_test_absolute_expiry(since: u64, answer: &mut [u8]) -> u
 // The hash of a public key.
 #[no_mangle]
 pub extern "C" fn fiber_test_key_hash(key: &[u8], answer: &mut [u8]) -> u64
-    ensures { λ r. ⌜ S.LeavesAnswer (S.keyCall (now (key .entry)) (now (answer .entry))) r (now (answer .exit)) ⌝ }
+    ensures { λ r. ⌜ S.Leaves (S.keyCall (now (key .entry)) (now (answer .entry))) r [] (now (answer .exit)) ⌝ }
 {
     if answer.len() < KEY_ANSWER {
         return 14;

@@ -25,10 +25,9 @@ use fiber_types::tlc::valid_hash_len;
 use fiber_walk::first::choose_first;
 use fiber_walk::later::choose_later;
 ghost use mathlib.Core.Path.{_≡_};
-ghost use Prim.Native.Nat.{ℕ, _+_, _*_, _≤_};
-ghost use lib.ListN.{length};
+ghost use Prim.Native.Nat.{_+_};
 ghost use Rattle.fiber_choice.specs.Request.{requestOf, validRequest, delayOf};
-ghost use Rattle.fiber_choice.specs.HandedOut.{Gives};
+ghost use Rattle.fiber_types.specs.Records.{Gives};
 ghost use Rattle.fiber_choice.specs.Choice as S;
 
 // The delay in the lock args: 10 below 36 bytes, 11 where bytes 20 to 27 are no relative epoch since.
@@ -76,7 +75,8 @@ fn valid_request(
     tracked: &[u8],
     preimages: &[u8],
 ) -> bool
-    ensures { λ r. ⌜ r ≡ validRequest (requestOf scalars (now (args .entry)) (now (tlcs .entry)) (now («local_key» .entry)) (now («remote_key» .entry)) (now (tracked .entry)) (now (preimages .entry))) ⌝ }
+    ensures { λ r. ⌜ r ≡ validRequest (requestOf scalars (now (args .entry)) (now (tlcs .entry)) (now («local_key» .entry))
+        (now («remote_key» .entry)) (now (tracked .entry)) (now (preimages .entry))) ⌝ }
 {
     if !valid_hash_len(scalars.h) {
         return false;
@@ -113,7 +113,12 @@ pub fn choose(
     witness: &[u8],
     out: &mut [u8],
 ) -> ChoiceAnswer
-    ensures { λ r. ⌜ Gives (S.choiceOf (requestOf scalars (now (args .entry)) (now (tlcs .entry)) (now («local_key» .entry)) (now («remote_key» .entry)) (now (tracked .entry)) (now (preimages .entry))) «is_later» (now (witness .entry)) (now (out .entry))) r (now (out .exit)) ⌝ }
+    ensures { λ r. ⌜ Gives
+        (S.choiceOf
+        (requestOf scalars (now (args .entry)) (now (tlcs .entry)) (now («local_key» .entry)) (now («remote_key» .entry))
+        (now (tracked .entry)) (now (preimages .entry)))
+        «is_later» (now (witness .entry)) (now (out .entry)))
+        r (now (out .exit)) ⌝ }
 {
     if !valid_request(
         scalars,

@@ -7,19 +7,21 @@ use fiber_witness::unlocks::count_standing;
 use fiber_witness::unlocks::take_unlocks;
 use fiber_witness::witness;
 use fiber_witness::witness::SHARE;
+use fiber_witness::witness::STATE_FIXED;
 use fiber_witness::witness::WitnessRead;
-ghost use mathlib.Core.Path.{_≡_};
 ghost use Prim.Native.Nat.{_+_, _≤_};
 ghost use lib.ListN.{length};
-ghost use Rattle.fiber_witness.specs.Witness.{sharePlace, places};
+ghost use Rattle.fiber_types.specs.Records.{Gives};
+ghost use Rattle.fiber_witness.specs.Witness.{places};
 ghost use Rattle.fiber_witness.specs.Update as S;
+ghost use Rattle.fiber_witness.specs.inner.Strided.{sharePlace};
 
 // What follows the reading: the unlocks are taken, and the state left is written.
 fn settle(h: usize, w: &[u8], n: usize, first: usize, out: &mut [u8]) -> Written
     requires { ⌜ (h ≤ 32) × (n ≤ 255) ⌝ }
     requires { ⌜ sharePlace h n + 72 ≤ length (now w) ⌝ }
-    ensures { λ r. ⌜ r ≡ S.written h (now (w .entry)) (now (out .entry)) (S.byUnlocks n (sharePlace h n) (S.takeUnlocks n (now (w .entry)) S.none (places (now (w .entry)) first))) .answer ⌝ }
-    ensures { λ _. ⌜ now (out .exit) ≡ S.written h (now (w .entry)) (now (out .entry)) (S.byUnlocks n (sharePlace h n) (S.takeUnlocks n (now (w .entry)) S.none (places (now (w .entry)) first))) .bytes ⌝ }
+    ensures { λ r. ⌜ Gives (S.written h (now (w .entry)) (now (out .entry))
+        (S.takeUnlocks n (sharePlace h n) (now (w .entry)) S.none (places (now (w .entry)) first))) r (now (out .exit)) ⌝ }
 {
     let j = take_unlocks(w, n, first);
     let answer = j.answer;
@@ -30,7 +32,7 @@ fn settle(h: usize, w: &[u8], n: usize, first: usize, out: &mut [u8]) -> Written
         UnlocksAnswer::Refused { number, place } => Written::Refused { number, place },
         UnlocksAnswer::Fine => {
             let k = count_standing(marks, n);
-            let size = 73 + k * (TLC_FIXED + h);
+            let size = STATE_FIXED + k * (TLC_FIXED + h);
             if out.len() < size {
                 return Written::Refused {
                     number: 13,
@@ -60,15 +62,14 @@ fn settle(h: usize, w: &[u8], n: usize, first: usize, out: &mut [u8]) -> Written
 
 // Updates a witness of a channel whose hashes have h bytes: the state left is written to the front of out.
 pub fn update(h: usize, w: &[u8], out: &mut [u8]) -> Written
-    ensures { λ r. ⌜ r ≡ S.updated h (now (w .entry)) (now (out .entry)) .answer ⌝ }
-    ensures { λ _. ⌜ now (out .exit) ≡ S.updated h (now (w .entry)) (now (out .entry)) .bytes ⌝ }
+    ensures { λ r. ⌜ Gives (S.updated h (now (w .entry)) (now (out .entry))) r (now (out .exit)) ⌝ }
 {
     match witness::read(h, w) {
         WitnessRead::Whole {
             n,
-            unlocks: _,
-            share: _,
-            first,
+            unlock_count: _,
+            share_place: _,
+            first_unlock: first,
         } => settle(h, w, n, first, out),
         WitnessRead::Refused { number, place } => Written::Refused { number, place },
     }

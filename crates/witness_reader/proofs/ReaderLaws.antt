@@ -15,7 +15,8 @@ use Rattle.fiber_bytes.proofs.BytesLaws.{either}
 use Rattle.fiber_types.specs.Records.{validHashLen, witnessLen}
 use Rattle.fiber_types.proofs.RecordsLaws.{hash-len-small}
 use Rattle.fiber_witness.specs.declared.witness.WitnessRead.the-variants.{Whole, Refused}
-use Rattle.fiber_witness.specs.Witness.{recordLen, sharePlace, unlockLen, places, readUnlocks, readTlcs, readWitness}
+use Rattle.fiber_witness.specs.Witness.{recordLen, unlockLen, places, readUnlocks, readTlcs, readWitness}
+use Rattle.fiber_witness.specs.inner.Strided.{sharePlace}
 use Rattle.fiber_witness.proofs.WitnessLaws.{unlock-long, places-cons, cut-passed, cut-short, Reading, reading-start, reading-end, share-small, whole-cut, shares-cut, shares-whole, witness-short, witness-tlcs}
 use Rattle.witness_reader.specs.Reader.{taken, left}
 use Rattle.witness_reader.specs.inner.Front.{tlcsLen, preimageLen, Front}

@@ -36,11 +36,11 @@ use denote.Triple.Spec.{tripleOf}
 use denote.Triple.Clauses.{ensured, lasts}
 use Rattle.witness_reader.specs.Reader.{taken, left}
 use Rattle.witness_reader.specs.declared.WitnessReader.{WitnessReader}
-use Rattle.witness_reader.specs.declared.Taken.{Taken}
+use Rattle.witness_reader.specs.declared.TakeAnswer.{TakeAnswer}
 use Rattle.witness_reader.proofs.WitnessReader as T
 use Rattle.witness_reader.proofs.WitnessReader.Laws as T′
-use Rattle.witness_reader.proofs.Taken as K
-use Rattle.witness_reader.proofs.Taken.Laws as K′
+use Rattle.witness_reader.proofs.TakeAnswer as K
+use Rattle.witness_reader.proofs.TakeAnswer.Laws as K′
 use Rattle.witness_reader.proofs.WitnessReader.take as take
 use Rattle.witness_reader.proofs.WitnessReader.take.Symbol.{name as #witness-reader·take}
 
@@ -68,18 +68,18 @@ Sl κ x = SS κ .own x (val x ∷ [])
 abbrev pub Rd : Lft → WitnessReader → Fml
 Rd κ r = T.the-row (α κ) .own r (T′.lowered r ∷ [])
 
-abbrev pub Gave : Lft → Taken → Fml
+abbrev pub Gave : Lft → TakeAnswer → Fml
 Gave κ x = K.the-row (α κ) .own x (K′.lowered x ∷ [])
 
 -- what `take` says of its result, and what a local says of it
-abbrev pub Said : WitnessReader → ℕ → Taken → Type 0
+abbrev pub Said : WitnessReader → ℕ → TakeAnswer → Type 0
 Said r k x = (x .enough ≡ leb k (length (now (r .remaining)))) × (now (x .part) ≡ taken (now (r .remaining)) k) ×
     (now (x .rest .remaining) ≡ left (now (r .remaining)) k)
 
-abbrev pub Typed : Taken → Type 0
+abbrev pub Typed : TakeAnswer → Type 0
 Typed x = Holds (hasTy (K′.mir erased) (K′.lowered x)) × WT (K′.lowered x)
 
-abbrev vk : (κ : Lft) → Taken → Values (K.the-type (α κ) .parts)
+abbrev vk : (κ : Lft) → TakeAnswer → Values (K.the-type (α κ) .parts)
 vk κ x = (x .enough, (x .part, (x .rest, tt)))
 
 module _ {M : Type 1} (𝓤 : URA M) (H : Heap 𝓤) (A : Atoms 𝓤) (W : Given 𝓤 H A) (κ : Lft) where
@@ -91,7 +91,7 @@ module _ {M : Type 1} (𝓤 : URA M) (H : Heap 𝓤) (A : Atoms 𝓤) (W : Given
       frame ! $ done !
 
   -- the result of a take, in its parts, and the reader in its slice
-  pub apart : (x : Taken) → ent 𝓤 (sem 𝓤 H A (Gave κ x)) (sep 𝓤 (sem 𝓤 H A (Sl κ (x .part))) (sem 𝓤 H A (Rd κ (x .rest))))
+  pub apart : (x : TakeAnswer) → ent 𝓤 (sem 𝓤 H A (Gave κ x)) (sep 𝓤 (sem 𝓤 H A (Sl κ (x .part))) (sem 𝓤 H A (Rd κ (x .rest))))
   apart x =
       qed W (‵ (Gave κ x) ∷ []) ∵
       use1 W (given (K′.lowered x ∷ [] ≡ K′.lowered x ∷ []) (‵ (all-own (K.the-type (α κ) .parts) (K′.the-laws (α κ)) (vk κ x))))
@@ -112,12 +112,12 @@ module _ {M : Type 1} (𝓤 : URA M) (H : Heap 𝓤) (A : Atoms 𝓤) (mem : Mem
   abbrev pub to-take : Lft → Share → WitnessReader → ℕ → Take .Ghost
   to-take κ p r k = (((κ, tt), (p, tt), tt, (r, (k, tt)), (T′.lowered r ∷ [], (vint w64 k ∷ [], tt))), tt)
 
-  take-said : (κ : Lft) (r : WitnessReader) (k : ℕ) (x : Taken)
+  take-said : (κ : Lft) (r : WitnessReader) (k : ℕ) (x : TakeAnswer)
       → ent 𝓤 (ensured 𝓤 H A take.ended (take.clauses 𝓤 H A mem run) (κ, tt) (r, (k, tt)) tt x) (fact 𝓤 (Said r k x))
   take-said κ r k x = exE 𝓤 _ (λ ws. snd∗ 𝓤 (sem 𝓤 H A (lasts take.ended (κ, tt) (r, (k, tt)) ws)) (fact 𝓤 (Said r k x)))
 
   abbrev took : Lft → Share → WitnessReader → ℕ → Val → Item 𝓤
-  took κ p r k u = later (some (λ (x : Taken). ((‵ (flft κ p) ⊛ ‵ ftrue) ⊛ ‵ (K.the-row (α κ) .own x (u ∷ [])))
+  took κ p r k u = later (some (λ (x : TakeAnswer). ((‵ (flft κ p) ⊛ ‵ ftrue) ⊛ ‵ (K.the-row (α κ) .own x (u ∷ [])))
       ⊛ raw (ensured 𝓤 H A take.ended (take.clauses 𝓤 H A mem run) (κ, tt) (r, (k, tt)) tt x)))
 
   goes-take : (W : Given 𝓤 H A) (κ : Lft) (p : Share) (r : WitnessReader) (k : ℕ) → k < 2 ^ 64
@@ -131,11 +131,11 @@ module _ {M : Type 1} {𝓤 : URA M} {H : Heap 𝓤} {A : Atoms 𝓤} {J : Type 
   pub takes : J → FmC 𝓤 H (W .laws) C → (mem : Memory → SProp 𝓤) (run : Routine → Fun 𝓤) (κ : Lft) (p : Share)
       → Triple 𝓤 (C #witness-reader·take) (Take 𝓤 H A mem run) → (r : WitnessReader) (k : ℕ) → k < 2 ^ 64
       → Opds J W (raw (Take 𝓤 H A mem run .pre (to-take 𝓤 H A mem run κ p r k)) ∷ Γ) E xs (T′.lowered r ∷ vint w64 k ∷ [])
-      → ((x : Taken) → Said r k x → Typed x → Seq J W (‵ (Gave κ x) ∷ (‵ (flft κ p) ⊛ ‵ ftrue) ∷ Γ) (lands C Λ E d (K′.lowered x) rest q))
+      → ((x : TakeAnswer) → Said r k x → Typed x → Seq J W (‵ (Gave κ x) ∷ (‵ (flft κ p) ⊛ ‵ ftrue) ∷ Γ) (lands C Λ E d (K′.lowered x) rest q))
       → Seq J W (‵ (Rd κ r) ∷ (‵ (flft κ p) ⊛ ‵ ftrue) ∷ Γ) (runs C Λ E (seq (call #witness-reader·take xs d) rest) q)
-  takes t fm mem run κ p validHashLen r k g os next =
+  takes t fm mem run κ p take-met r k g os next =
       use2 W (raw (Take 𝓤 H A mem run .pre (to-take 𝓤 H A mem run κ p r k))) (goes-take 𝓤 H A mem run W κ p r k g) $
-      calls-at t fm (Take 𝓤 H A mem run) validHashLen (to-take 𝓤 H A mem run κ p r k) os (λ u.
+      calls-at t fm (Take 𝓤 H A mem run) take-met (to-take 𝓤 H A mem run κ p r k) os (λ u.
       use1 W (took 𝓤 H A mem run κ p r k u) (id⊢ 𝓤 _) $ await t tt $ pick t (λ x.
       split t $ move t (1 ∷ []) $ use1 W (raw (fact 𝓤 (Said r k x))) (take-said 𝓤 H A mem run κ r k x) $ heard t (Said r k x) (λ e. split t $ move t (1 ∷ []) $
       peeks t (K.the-row (α κ)) (Is (K.the-row (α κ))) (shows 𝓤 H A (K.the-row (α κ))) x (u ∷ []) (λ is.

@@ -3,7 +3,10 @@
 // anything: what was taken goes to functions on plain slices and numbers. A form beside the upper face, for whoever wants the reference's; no crate
 // of the core uses it, the program `forms` runs it. Uses the two faces and fiber_bytes.
 use fiber_bytes::part_of;
+use fiber_types::tlc::TLC_FIXED;
 use fiber_types::tlc::valid_hash_len;
+use fiber_types::unlock::UNLOCK;
+use watchtower::witness::SHARES;
 use watchtower::witness::WitnessRead;
 ghost use mathlib.Core.Path.{_≡_};
 ghost use mathlib.Core.Bool.{cond};
@@ -19,7 +22,7 @@ pub struct WitnessReader<'a> {
 }
 
 // What `take` gives: whether there were enough bytes, the bytes, and the reader of what is left.
-pub struct Taken<'a> {
+pub struct TakeAnswer<'a> {
     pub enough: bool,
     pub part: &'a [u8],
     pub rest: WitnessReader<'a>,
@@ -61,13 +64,13 @@ impl<'a> WitnessReader<'a> {
     }
 
     // The next n bytes. Where there are fewer, none, and the reader stays where it is.
-    pub fn take(self, n: usize) -> Taken<'a>
+    pub fn take(self, n: usize) -> TakeAnswer<'a>
         ensures { λ r. ⌜ (r .enough ≡ leb n (length (now (self .entry .remaining))))
             × (now (r .part) ≡ taken (now (self .entry .remaining)) n)
             × (now (r .rest .remaining) ≡ left (now (self .entry .remaining)) n) ⌝ }
     {
         let s = self.remaining;
-        Taken {
+        TakeAnswer {
             enough: has(s, n),
             part: front_bytes(s, n),
             rest: WitnessReader {
@@ -114,7 +117,7 @@ fn behind<'a>(s: &'a [u8], first: bool, second: bool, rest: &'a [u8]) -> &'a [u8
 fn unlock_left(s: &[u8]) -> &[u8]
     ensures { λ r. ⌜ now r ≡ left (now (s .entry)) (unlockLen (now (s .entry)) 0) ⌝ }
 {
-    let unlock = WitnessReader { remaining: s }.take(67);
+    let unlock = WitnessReader { remaining: s }.take(UNLOCK);
     let preimage = unlock.rest.take(preimage_len(unlock.part));
     behind(s, unlock.enough, preimage.enough, preimage.rest.remaining)
 }
@@ -139,9 +142,9 @@ fn read_unlocks<'a>(w: &'a [u8], n: usize, share: usize, rest: &'a [u8]) -> Witn
     }
     WitnessRead::Whole {
         n,
-        unlocks,
-        share,
-        first: share + 72,
+        unlock_count: unlocks,
+        share_place: share,
+        first_unlock: share + SHARES,
     }
 }
 
@@ -162,7 +165,7 @@ fn tlcs_len(h: usize, counts: &[u8]) -> usize
     if !valid_hash_len(h) {
         return 0;
     }
-    count_in(counts) * (65 + h)
+    count_in(counts) * (TLC_FIXED + h)
 }
 
 // What three takes mean, by whether each had enough bytes: the row of the first that had not, or the unlocks.
@@ -190,7 +193,7 @@ fn read_front<'a>(
             place: w.len(),
         };
     }
-    let size = 65 + h;
+    let size = TLC_FIXED + h;
     if !listed {
         let whole = (w.len() - 2) / size;
         return WitnessRead::Refused {
@@ -215,7 +218,7 @@ pub fn read(h: usize, w: &[u8]) -> WitnessRead
 {
     let counts = WitnessReader { remaining: w }.take(2);
     let tlcs = counts.rest.take(tlcs_len(h, counts.part));
-    let shares = tlcs.rest.take(72);
+    let shares = tlcs.rest.take(SHARES);
     read_front(
         h,
         w,

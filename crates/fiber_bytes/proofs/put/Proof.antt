@@ -1,7 +1,6 @@
 -- Bytes are stored one after the other; those without room change nothing.
 use Prim.Native.Nat.{_+_, _-_, _≤_}
 use mathlib.Core.Path.{_≡_, refl, _∙_}
-use native.Mathlib.Omega.{arith}
 use lib.ListN.{length, drop, length-set}
 use lib.Seq.{sets}
 use native.Mathlib.Nat.{add-zero}

@@ -1,5 +1,4 @@
 -- Two stores, one behind the other.
-use native.Mathlib.Omega.{arith}
 use native.Mathlib.Numerals.{add-one}
 use lib.ListN.{length-set}
 use Rattle.fiber_bytes.specs.Bytes.{leBytes}

@@ -5,7 +5,6 @@ use mathlib.Core.List.{List, [], _∷_, _++_}
 use lib.ListN.{getD, replicate}
 use Rattle.fiber_types.specs.Records.{unlockBytes}
 use Rattle.fiber_choice.specs.declared.kinds.Side.the-variants as side·
-use Rattle.fiber_choice.specs.declared.kinds.Way.{Way}
 use Rattle.fiber_choice.specs.declared.kinds.Way.the-variants as way·
 use Rattle.fiber_choice.specs.declared.kinds.Choice.{Choice}
 use Rattle.fiber_choice.specs.declared.kinds.Choice.the-variants as choice·
@@ -15,7 +14,8 @@ use Rattle.fiber_choice.specs.declared.kinds.Plan.{Plan}
 use Rattle.fiber_witness.specs.Witness.{stateBytes}
 use Rattle.fiber_witness.specs.Update.{keep, shareLeft}
 use Rattle.fiber_choice.specs.Entries.{pairPreimage, trackedRecords}
-use Rattle.fiber_choice.specs.HandedOut.{choiceByte, newArgs}
+use Rattle.fiber_choice.specs.HandedOut.{newArgs}
+use Rattle.fiber_choice.specs.Promises.{PairIn}
 
 -- in a first settlement there is a settlement TLC at the place, of n
 unfoldable pub Reaches : Stage → ℕ → ℕ → Type 0
@@ -38,16 +38,8 @@ unfoldable pub Below : ℕ → Choice → Type 0
 Below n (choice·.Share side) = Unit {0}
 Below n (choice·.Tlc place way) = place < n
 
-unfoldable pub Paired : ℕ → Way → Type 0
-Paired m way·.Timeout = Unit {0}
-Paired m (way·.Preimage pair) = pair < m
-
-unfoldable pub PairBelow : ℕ → Choice → Type 0
-PairBelow m (choice·.Share side) = Unit {0}
-PairBelow m (choice·.Tlc place way) = Paired m way
-
 unfoldable pub Within : ℕ → ℕ → Choice → Type 0
-Within n m c = Below n c × PairBelow m c
+Within n m c = Below n c × PairIn m c
 
 unfoldable pub planUnlock : List (List ℕ) → Plan → List ℕ
 planUnlock pairs p = unlockBytes (record { byte = p .byte; flag = p .flag }) (replicate 65 0) (cond (p .flag) (pairPreimage (getD pairs (p .pair) [])) [])

@@ -11,7 +11,7 @@ unfoldable pub checkedMul : ℕ → ℕ → Product
 checkedMul a b = cond (ltb (a * b) (2 ^ 64)) (product·.Fits (a * b)) product·.Over
 
 -- what the due test has found before it compares: each field within its bits, and no length of 0
-pub record Within (e : Epoch) : Type 0 where
+pub record Bounded (e : Epoch) : Type 0 where
   pub number : e .number < 16777216
   pub index : e .index < 65536
   pub length : e .length < 65536

@@ -1,12 +1,16 @@
--- Where the code takes the records of a state from: a list in which they stand a fixed number of bytes apart, and of them those that are not
--- marked. Only contracts of inner functions speak of it.
-use Prim.Native.Nat.{ℕ, zero, suc, _+_}
+-- Where the code takes the shares and the records of a state from: the records out of a list in which they stand a fixed number of bytes apart,
+-- and of them those that are not marked. Only contracts of inner functions speak of it.
+use Prim.Native.Nat.{ℕ, zero, suc, _+_, _*_}
 use mathlib.Core.Bool.{Bool}
 use mathlib.Core.List.{List, [], _∷_}
 use Rattle.fiber_bytes.specs.Bytes.{part}
 use Rattle.fiber_witness.specs.Witness.{recordLen}
 use Rattle.fiber_witness.specs.Update.{keep}
 use Rattle.fiber_witness.specs.inner.Marks.{marked}
+
+-- the place of the share part of a witness, behind n TLCs
+abbrev pub sharePlace : ℕ → ℕ → ℕ
+sharePlace h n = 2 + n * recordLen h
 
 -- m records of size bytes each, stride bytes apart, the first at a place of s
 unfoldable pub strided : ℕ → ℕ → ℕ → List ℕ → ℕ → List (List ℕ)

@@ -48,7 +48,7 @@ use Rattle.fiber_choice.specs.Preimages.{findPair}
 use Rattle.fiber_choice.specs.declared.kinds.Found.{Found}
 use Rattle.fiber_choice.proofs.kinds.Found as F
 use Rattle.fiber_choice.proofs.kinds.Found.Laws as F′
-use Rattle.preimage_list.specs.PreimageList.{findIn, flatPairs}
+use Rattle.preimage_list.specs.PreimageList.{flatPairs}
 use Rattle.preimage_list.specs.declared.Preimage.{Preimage}
 use Rattle.preimage_list.proofs.Preimage as T
 use Rattle.preimage_list.proofs.Preimage.Laws as T′
@@ -130,7 +130,7 @@ module _ {M : Type 1} (𝓤 : URA M) (H : Heap 𝓤) (A : Atoms 𝓤) (W : Given
       nothing ! $ move ! (2 ∷ 0 ∷ []) $ join ! $ join ! $ frame ! $ done !
 
   abbrev Told : Found → Type 0
-  Told y = (y ≡ findIn 0 (take n xs) h) × (y ≡ findPair 0 (entries pairLen (flatPairs (take n xs))) h)
+  Told y = y ≡ findPair 0 (entries pairLen (flatPairs (take n xs))) h
 
   said : (ν : ℕ) (γ : GName) (b : ℕ) (y : Found)
       → ent 𝓤 (ensured 𝓤 H A find.ended (find.clauses 𝓤 H A mem run) (ν ∷ [], tt) (s b γ, (h, tt)) tt y) (fact 𝓤 (Told y))
@@ -140,11 +140,11 @@ module _ {M : Type 1} (𝓤 : URA M) (H : Heap 𝓤) (A : Atoms 𝓤) (W : Given
   exits y u e =
       qed W (‵ (F.the-row .own y (u ∷ [])) ∷ ‵ Own ∷ ‵ ftrue ∷ []) ∵
       suffices ! _ (ends-at 𝓤 H A fil.ended stayed (fil.clauses 𝓤 H A mem run) W ((tt, tt, tt, (xs, (n, (h, tt))), at), tt) u y (tt, (tt, (tt, tt))) (tt, (tt, (tt, tt)))) $
-      says ! (e .0) $ move ! (2 ∷ []) $ frame ! $ nothing ! $
+      says ! e $ move ! (2 ∷ []) $ frame ! $ nothing ! $
       owned ! A32 (Is A32) (array-makes 𝓤 H A W u8 (uint-makes 𝓤 H A W w8) 32) h _ ih $ fjoin ! $
       owned ! usize (Is usize) (uint-makes 𝓤 H A W w64) n _ (refl, gn) $ fjoin ! $ move ! (2 ∷ 0 ∷ []) $ fjoin ! $ frame ! $ done !
 
-  module _ (C : Calls 𝓤 H) (Λ : Loops 𝓤 H) (fm : FmC 𝓤 H (W .laws) C) (validHashLen : Triple 𝓤 (C #preimage-list·find-pair) (Find 𝓤 H A mem run)) where
+  module _ (C : Calls 𝓤 H) (Λ : Loops 𝓤 H) (fm : FmC 𝓤 H (W .laws) C) (find-pair-met : Triple 𝓤 (C #preimage-list·find-pair) (Find 𝓤 H A mem run)) where
     walk : ent 𝓤 (onEntry 𝓤 H A fil.signature tt tt (xs, (n, (h, tt))) at) (WpFn 𝓤 H C Λ code.function (v16 xs ∷ vint w64 n ∷ v32 h ∷ []) Post)
     walk =
         qed W (‵ ftrue ∷ ‵ (owns (L16 ∷ usize ∷ A32 ∷ []) (xs, (n, (h, tt))) at) ∷ []) ∵ enter ! C Λ code.function (v16 xs ∷ vint w64 n ∷ v32 h ∷ []) _ $
@@ -164,7 +164,7 @@ module _ {M : Type 1} (𝓤 : URA M) (H : Heap 𝓤) (A : Atoms 𝓤) (W : Given
         lends ! tt R 16 tt (ν ∷ []) n xs l₄ (v16 xs) room (λ γ. move ! (0 ∷ 4 ∷ []) $
         -- [the slice's; the token; the lender's part; the other elements; their number; what the array owns; _6 (6); …]
         use2 W (raw (Find 𝓤 H A mem run .pre (to ν γ l₄))) (goes ν γ l₄) $
-        calls-at ! fm (Find 𝓤 H A mem run) validHashLen (to ν γ l₄)
+        calls-at ! fm (Find 𝓤 H A mem run) find-pair-met (to ν γ l₄)
         (and-then ! (load ! (from ! (stop !)) (look ! 5 refl)) (and-then ! (load ! (from ! (stop !)) (look ! 10 refl)) (no-more !))) (λ u.
         use1 W (later (some (λ (y : Found). ((‵ (flft (ν ∷ []) fullShare) ⊛ ‵ ftrue) ⊛ ‵ (F.the-row .own y (u ∷ [])))
         ⊛ raw (ensured 𝓤 H A find.ended (find.clauses 𝓤 H A mem run) (ν ∷ [], tt) (s l₄ γ, (h, tt)) tt y)))) (id⊢ 𝓤 _) $ await ! tt $ pick ! (λ y.
@@ -182,18 +182,18 @@ module _ {M : Type 1} (𝓤 : URA M) (H : Heap 𝓤) (A : Atoms 𝓤) (W : Given
 module _ {M : Type 1} (𝓤 : URA M) (H : Heap 𝓤) (A : Atoms 𝓤) (W : Given 𝓤 H A) (mem : Memory → SProp 𝓤) (run : Routine → Fun 𝓤) where
   fil-walks : (C : Calls 𝓤 H) (Λ : Loops 𝓤 H) → FmC 𝓤 H (W .laws) C → Triple 𝓤 (C #preimage-list·find-pair) (Find 𝓤 H A mem run)
       → Walks 𝓤 H A fil.ended stayed (WpFn 𝓤 H C Λ code.function) (fil.clauses 𝓤 H A mem run)
-  fil-walks C Λ fm validHashLen = walked 𝓤 H A fil.ended stayed (fil.clauses 𝓤 H A mem run) (WpFn 𝓤 H C Λ code.function)
+  fil-walks C Λ fm find-pair-met = walked 𝓤 H A fil.ended stayed (fil.clauses 𝓤 H A mem run) (WpFn 𝓤 H C Λ code.function)
       (λ κs. (array-vals vals, (uint-vals w64, ((λ xs. v32 xs ∷ []), tt))))
       (λ κs. (array-tells R vals (LL.tells T.the-type T′.the-laws) 16, (uint-tells w64, (T′.the-laws .0 .tells, tt))))
-      (λ κs qs bounds a g are. needs 𝓤 (a .1 .0 ≤ 16) _ (λ few. walk 𝓤 H A W mem run (a .0) (a .1 .0) (a .1 .1 .0) (are .0) (are .1 .0 .1) (are .1 .1 .0) few C Λ fm validHashLen))
+      (λ κs qs bounds a g are. needs 𝓤 (a .1 .0 ≤ 16) _ (λ few. walk 𝓤 H A W mem run (a .0) (a .1 .0) (a .1 .1 .0) (are .0) (are .1 .0 .1) (are .1 .1 .0) few C Λ fm find-pair-met))
 
 fil-meets : {M : Type 1} (𝓤 : URA M) (H : Heap 𝓤) (A : Atoms 𝓤) (W : Given 𝓤 H A) (mem : Memory → SProp 𝓤) (run : Routine → Fun 𝓤) (𝓣 : Tables 𝓤 H)
     → Triple 𝓤 (𝓣 .C #preimage-list·find-pair) (Find 𝓤 H A mem run)
     → Meets 𝓤 H A fil.signature (WpFn 𝓤 H (𝓣 .C) (𝓣 .Λ) code.function) (fil.spec 𝓤 H A mem run)
-fil-meets 𝓤 H A W mem run 𝓣 validHashLen = walk-meets 𝓤 H A fil.ended stayed W
+fil-meets 𝓤 H A W mem run 𝓣 find-pair-met = walk-meets 𝓤 H A fil.ended stayed W
     (goes-none 𝓤 H A W 0 (λ _. L16) yes (λ κs x f. refl), (goes-none 𝓤 H A W 0 (λ _. usize) yes (λ κs x f. refl), (goes-none 𝓤 H A W 0 (λ _. A32) yes (λ κs x f. refl), tt)))
     (fil.clauses 𝓤 H A mem run) (WpFn 𝓤 H (𝓣 .C) (𝓣 .Λ) code.function) (WpFn-mono 𝓤 H (W .laws) 𝓣 code.function)
-    (fil-walks 𝓤 H A W mem run (𝓣 .C) (𝓣 .Λ) (fmOf 𝓤 H (W .laws) 𝓣) validHashLen)
+    (fil-walks 𝓤 H A W mem run (𝓣 .C) (𝓣 .Λ) (fmOf 𝓤 H (W .laws) 𝓣) find-pair-met)
 
 pub found-in-list-spec : {M : Type 1} → stated.statement M
 unfolding code.routine tablesOf

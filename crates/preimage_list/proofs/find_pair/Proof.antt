@@ -123,9 +123,8 @@ use Rattle.fiber_choice.specs.declared.kinds.Found.{Found}
 use Rattle.fiber_choice.specs.declared.kinds.Found.the-variants.{At, None}
 use Rattle.fiber_choice.proofs.kinds.Found as F
 use Rattle.fiber_choice.proofs.kinds.Found.Laws as F′
-use Rattle.preimage_list.specs.PreimageList.{findIn}
 use Rattle.preimage_list.specs.declared.Preimage.{Preimage}
-use Rattle.preimage_list.proofs.PreimageListLaws.{noPair, Sized, find-agrees}
+use Rattle.preimage_list.proofs.PreimageListLaws.{findIn, noPair, Sized, find-agrees}
 use Rattle.preimage_list.proofs.Search.{Inv, starts, within, steps, stops, le-or-lt}
 use Rattle.preimage_list.proofs.SizedHolds.{Shared, slice-sized}
 use Rattle.preimage_list.proofs.Preimage as T
@@ -211,7 +210,7 @@ module _ {M : Type 1} (𝓤 : URA M) (H : Heap 𝓤) (A : Atoms 𝓤) (W : Given
       qed W (‵ (flft κ q) ∷ ‵ (F.the-row .own x (u ∷ [])) ∷ ‵ Own ∷ []) ∵
       suffices ! _
       (ends-at 𝓤 H A find.ended stayed (find.clauses 𝓤 H A mem run) W (((κ, tt), (q, tt), tt, (s, (h, tt)), at), tt) u x (tt, (tt, tt)) (tt, (tt, tt))) $
-      says ! (e, e ∙ find-agrees ys h sized) $ nothing ! $ move ! (1 ∷ 0 ∷ []) $ join ! $ frame ! $
+      says ! (e ∙ find-agrees ys h sized) $ nothing ! $ move ! (1 ∷ 0 ∷ []) $ join ! $ frame ! $
       nothing ! $ owned ! A32 (Is A32) (array-makes 𝓤 H A W u8 (uint-makes 𝓤 H A W w8) 32) h _ ih $ fjoin ! $ move ! (2 ∷ 0 ∷ []) $ fjoin ! $ frame ! $ done !
 
   -- the call of `cut` at pair i: what it is passed, what it asks, and what it says

@@ -6,7 +6,7 @@ use mathlib.Core.Logic.{inl, inr, ⊎-elim}
 use native.Mathlib.Omega.{arith}
 use lib.ListN.{length}
 use lib.Seq.{sets}
-use Rattle.report.specs.Report.{hexBy}
+use Rattle.report.specs.inner.Hex.{hexBy}
 use Rattle.report.proofs.ReportLaws.{hexLeft, by-length, by-start, by-more, by-within, by-end}
 use borrow.Author.Needs.{needs}
 use Rattle.report.proofs.put_hex.Statement.{statement}

@@ -80,7 +80,7 @@ module _ {M : Type 1} (𝓤 : URA M) (H : Heap 𝓤) (A : Atoms 𝓤) (W : Given
       suffices ! _ (ends-at 𝓤 H A ended.ended stayed (ended.clauses 𝓤 H A mem run) W (((κ, tt), (q, tt), tt, (s, tt), (val s ∷ [], tt)), tt) u t (tt, tt) (tt, tt)) $
       says ! e $ move ! (1 ∷ []) $ frame ! $ nothing ! $ move ! (2 ∷ 0 ∷ []) $ fjoin ! $ frame ! $ done !
 
-  module _ (C : Calls 𝓤 H) (Λ : Loops 𝓤 H) (fm : FmC 𝓤 H (W .laws) C) (validHashLen : Triple 𝓤 (C #witness-reader·is-empty) (Empty 𝓤 H A mem run)) where
+  module _ (C : Calls 𝓤 H) (Λ : Loops 𝓤 H) (fm : FmC 𝓤 H (W .laws) C) (is-empty-met : Triple 𝓤 (C #witness-reader·is-empty) (Empty 𝓤 H A mem run)) where
     walk : Is (SS κ) s (val s ∷ [])
         → ent 𝓤 (onEntry 𝓤 H A ended.signature (κ, tt) (q, tt) (s, tt) (val s ∷ [], tt)) (WpFn 𝓤 H C Λ code.function (val s ∷ []) Post)
     walk p =
@@ -94,7 +94,7 @@ module _ {M : Type 1} (𝓤 : URA M) (H : Heap 𝓤) (A : Atoms 𝓤) (W : Given
         use1 W (‵ (Rd κ (of s)) ⊛ ‵ (Sl κ s)) (made 𝓤 H A W κ s) $ split ! $ move ! (0 ∷ 2 ∷ []) $
         -- [the reader's; the token; s's; _2 (3); …]
         use2 W (raw (Empty 𝓤 H A mem run .pre to)) goes $
-        calls-at ! fm (Empty 𝓤 H A mem run) validHashLen to (and-then ! (load ! (from ! (stop !)) (look ! 2 refl)) (no-more !)) (λ u.
+        calls-at ! fm (Empty 𝓤 H A mem run) is-empty-met to (and-then ! (load ! (from ! (stop !)) (look ! 2 refl)) (no-more !)) (λ u.
         use1 W (later (some (λ (t : Bool). ((‵ (flft κ q) ⊛ ‵ ftrue) ⊛ ‵ (bool .own t (u ∷ [])))
         ⊛ raw (ensured 𝓤 H A is-empty.ended (is-empty.clauses 𝓤 H A mem run) (κ, tt) (of s, tt) tt t)))) (id⊢ 𝓤 _) $ await ! tt $ pick ! (λ t.
         split ! $ move ! (1 ∷ []) $ use1 W (raw (fact 𝓤 (Said t))) (said t) $ heard ! (Said t) (λ e. split ! $ move ! (1 ∷ []) $
@@ -107,16 +107,16 @@ module _ {M : Type 1} (𝓤 : URA M) (H : Heap 𝓤) (A : Atoms 𝓤) (W : Given
 module _ {M : Type 1} (𝓤 : URA M) (H : Heap 𝓤) (A : Atoms 𝓤) (W : Given 𝓤 H A) (mem : Memory → SProp 𝓤) (run : Routine → Fun 𝓤) where
   ended-walks : (C : Calls 𝓤 H) (Λ : Loops 𝓤 H) → FmC 𝓤 H (W .laws) C → Triple 𝓤 (C #witness-reader·is-empty) (Empty 𝓤 H A mem run)
       → Walks 𝓤 H A ended.ended stayed (WpFn 𝓤 H C Λ code.function) (ended.clauses 𝓤 H A mem run)
-  ended-walks C Λ fm validHashLen = walked 𝓤 H A ended.ended stayed (ended.clauses 𝓤 H A mem run) (WpFn 𝓤 H C Λ code.function)
+  ended-walks C Λ fm is-empty-met = walked 𝓤 H A ended.ended stayed (ended.clauses 𝓤 H A mem run) (WpFn 𝓤 H C Λ code.function)
       (λ κs. (slice-vals, tt)) (λ κs. (shr-slice-tells (named 0) (κs .0) u8, tt))
-      (λ κs qs bounds a g are. via 𝓤 _ (fst∗ 𝓤 _ (emp 𝓤)) (walk 𝓤 H A W mem run (κs .0) (qs .0) (a .0) C Λ fm validHashLen (are .0)))
+      (λ κs qs bounds a g are. via 𝓤 _ (fst∗ 𝓤 _ (emp 𝓤)) (walk 𝓤 H A W mem run (κs .0) (qs .0) (a .0) C Λ fm is-empty-met (are .0)))
 
 ended-meets : {M : Type 1} (𝓤 : URA M) (H : Heap 𝓤) (A : Atoms 𝓤) (W : Given 𝓤 H A) (mem : Memory → SProp 𝓤) (run : Routine → Fun 𝓤) (𝓣 : Tables 𝓤 H)
     → Triple 𝓤 (𝓣 .C #witness-reader·is-empty) (Empty 𝓤 H A mem run)
     → Meets 𝓤 H A ended.signature (WpFn 𝓤 H (𝓣 .C) (𝓣 .Λ) code.function) (ended.spec 𝓤 H A mem run)
-ended-meets 𝓤 H A W mem run 𝓣 validHashLen = walk-meets 𝓤 H A ended.ended stayed W (goes-none-slice 𝓤 H A W 1 (0 ∷ []) tt (plain (λ _. u8)) yes, tt)
+ended-meets 𝓤 H A W mem run 𝓣 is-empty-met = walk-meets 𝓤 H A ended.ended stayed W (goes-none-slice 𝓤 H A W 1 (0 ∷ []) tt (plain (λ _. u8)) yes, tt)
     (ended.clauses 𝓤 H A mem run) (WpFn 𝓤 H (𝓣 .C) (𝓣 .Λ) code.function) (WpFn-mono 𝓤 H (W .laws) 𝓣 code.function)
-    (ended-walks 𝓤 H A W mem run (𝓣 .C) (𝓣 .Λ) (fmOf 𝓤 H (W .laws) 𝓣) validHashLen)
+    (ended-walks 𝓤 H A W mem run (𝓣 .C) (𝓣 .Λ) (fmOf 𝓤 H (W .laws) 𝓣) is-empty-met)
 
 pub ended-spec : {M : Type 1} → stated.statement M
 unfolding code.routine tablesOf

@@ -43,7 +43,7 @@ use Rattle.fiber_witness.specs.declared.witness.WitnessRead.{WitnessRead}
 use Rattle.fiber_witness.proofs.witness.WitnessRead as R
 use Rattle.fiber_witness.proofs.witness.WitnessRead.Laws as R′
 use Rattle.witness_reader.specs.inner.Front.{tlcsLen, Front}
-use Rattle.witness_reader.specs.declared.Taken.{Taken}
+use Rattle.witness_reader.specs.declared.TakeAnswer.{TakeAnswer}
 use Rattle.witness_reader.proofs.ReaderLaws.{front-taken}
 use Rattle.witness_reader.proofs.Takes.{SS, val, of, Sl, Rd, Gave, Said, Take, made, apart, opened, takes}
 use Rattle.witness_reader.proofs.WitnessReader.take.Symbol as take-def
@@ -100,10 +100,10 @@ module _ {M : Type 1} (𝓤 : URA M) (H : Heap 𝓤) (A : Atoms 𝓤) (W : Given
   len-said p n = exE 𝓤 _ (λ ws. snd∗ 𝓤 (sem 𝓤 H A (lasts len.ended (κ, tt) (h, (p, tt)) ws)) (fact 𝓤 (n ≡ tlcsLen h (now p))))
 
   -- the call of `read_front`, on what the takes x, y and z gave
-  abbrev r : Taken → RefT (List ℕ)
+  abbrev r : TakeAnswer → RefT (List ℕ)
   r z = z .rest .remaining
 
-  abbrev to-front : Taken → Taken → Taken → Fronted 𝓤 H A mem run .Ghost
+  abbrev to-front : TakeAnswer → TakeAnswer → TakeAnswer → Fronted 𝓤 H A mem run .Ghost
   to-front x y z = (
     (
       (κ, tt),
@@ -115,10 +115,10 @@ module _ {M : Type 1} (𝓤 : URA M) (H : Heap 𝓤) (A : Atoms 𝓤) (W : Given
     tt,
   )
 
-  abbrev Scalars : Taken → Taken → Taken → Type 0
+  abbrev Scalars : TakeAnswer → TakeAnswer → TakeAnswer → Type 0
   Scalars x y z = Front h (now s) (x .enough) (y .enough) (z .enough) (now (x .part)) (now (r z))
 
-  goes-front : (x y z : Taken) → Scalars x y z → ent 𝓤 (⋆ 𝓤 H A ((‵ (Sl κ (x .part)) ⊛ ‵ (Sl κ s)) ∷ ‵ (Gave κ z) ∷ (‵ (flft κ q) ⊛ ‵ ftrue) ∷ []))
+  goes-front : (x y z : TakeAnswer) → Scalars x y z → ent 𝓤 (⋆ 𝓤 H A ((‵ (Sl κ (x .part)) ⊛ ‵ (Sl κ s)) ∷ ‵ (Gave κ z) ∷ (‵ (flft κ q) ⊛ ‵ ftrue) ∷ []))
       (sep 𝓤 (Fronted 𝓤 H A mem run .pre (to-front x y z)) (sem 𝓤 H A (Sl κ s)))
   goes-front x y z e =
       qed W ((‵ (Sl κ (x .part)) ⊛ ‵ (Sl κ s)) ∷ ‵ (Gave κ z) ∷ (‵ (flft κ q) ⊛ ‵ ftrue) ∷ []) ∵ split ! $ move ! (2 ∷ 3 ∷ []) $
@@ -138,7 +138,7 @@ module _ {M : Type 1} (𝓤 : URA M) (H : Heap 𝓤) (A : Atoms 𝓤) (W : Given
   abbrev Told : WitnessRead → Type 0
   Told f = f ≡ readWitness h (now s)
 
-  front-said : (x y z : Taken) (f : WitnessRead)
+  front-said : (x y z : TakeAnswer) (f : WitnessRead)
       → ent 𝓤 (ensured 𝓤 H A front.ended (front.clauses 𝓤 H A mem run) (κ, tt) (to-front x y z .0 .3) tt f) (fact 𝓤 (Told f))
   front-said x y z f = exE 𝓤 _ (λ ws. snd∗ 𝓤 (sem 𝓤 H A (lasts front.ended (κ, tt) (to-front x y z .0 .3) ws)) (fact 𝓤 (Told f)))
 
@@ -151,7 +151,7 @@ module _ {M : Type 1} (𝓤 : URA M) (H : Heap 𝓤) (A : Atoms 𝓤) (W : Given
       frame ! $ done !
 
   -- what `read_front` asks, of the clauses together
-  chain : (x y z : Taken) (n : ℕ) → Said (of s) 2 x → n ≡ tlcsLen h (now (x .part)) → Said (x .rest) n y → Said (y .rest) 72 z → Scalars x y z
+  chain : (x y z : TakeAnswer) (n : ℕ) → Said (of s) 2 x → n ≡ tlcsLen h (now (x .part)) → Said (x .rest) n y → Said (y .rest) 72 z → Scalars x y z
   chain x y z n e₁ e₂ e₃ e₄ = front-taken h n (now s) (now (x .part)) (now (x .rest .remaining)) (now (y .rest .remaining)) (now (r z)) (x .enough)
       (y .enough) (z .enough) (e₁ .0) (e₁ .1) (e₁ .2) e₂ (e₃ .0) (e₃ .2) (e₄ .0) (e₄ .2)
 

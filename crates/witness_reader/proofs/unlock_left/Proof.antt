@@ -41,7 +41,7 @@ use denote.Triple.Clauses.{ensured, lasts}
 use Rattle.fiber_witness.specs.Witness.{unlockLen}
 use Rattle.witness_reader.specs.Reader.{left}
 use Rattle.witness_reader.specs.inner.Front.{preimageLen}
-use Rattle.witness_reader.specs.declared.Taken.{Taken}
+use Rattle.witness_reader.specs.declared.TakeAnswer.{TakeAnswer}
 use Rattle.witness_reader.proofs.ReaderLaws.{unlock-taken}
 use Rattle.witness_reader.proofs.Takes.{SS, val, of, Sl, Rd, Gave, Said, Take, made, apart, opened, takes}
 use Rattle.witness_reader.proofs.WitnessReader.take.Symbol as take-def
@@ -88,10 +88,10 @@ module _ {M : Type 1} (𝓤 : URA M) (H : Heap 𝓤) (A : Atoms 𝓤) (W : Given
   len-said p n = exE 𝓤 _ (λ ws. snd∗ 𝓤 (sem 𝓤 H A (lasts len.ended (κ, tt) (p, tt) ws)) (fact 𝓤 (n ≡ preimageLen (now p))))
 
   -- the call of `behind`, on what the takes x and y gave
-  abbrev r : Taken → RefT (List ℕ)
+  abbrev r : TakeAnswer → RefT (List ℕ)
   r y = y .rest .remaining
 
-  abbrev to-behind : Taken → Taken → Behind 𝓤 H A mem run .Ghost
+  abbrev to-behind : TakeAnswer → TakeAnswer → Behind 𝓤 H A mem run .Ghost
   to-behind x y = (
     (
       (κ, tt),
@@ -103,7 +103,7 @@ module _ {M : Type 1} (𝓤 : URA M) (H : Heap 𝓤) (A : Atoms 𝓤) (W : Given
     tt,
   )
 
-  goes-behind : (x y : Taken) → ent 𝓤 (⋆ 𝓤 H A (‵ (Gave κ y) ∷ (‵ (flft κ q) ⊛ ‵ ftrue) ∷ ‵ (Sl κ s) ∷ []))
+  goes-behind : (x y : TakeAnswer) → ent 𝓤 (⋆ 𝓤 H A (‵ (Gave κ y) ∷ (‵ (flft κ q) ⊛ ‵ ftrue) ∷ ‵ (Sl κ s) ∷ []))
       (sep 𝓤 (Behind 𝓤 H A mem run .pre (to-behind x y)) (sem 𝓤 H A (Sl κ s)))
   goes-behind x y =
       qed W (‵ (Gave κ y) ∷ (‵ (flft κ q) ⊛ ‵ ftrue) ∷ ‵ (Sl κ s) ∷ []) ∵ use1 W (‵ (Sl κ (y .part)) ⊛ ‵ (Rd κ (y .rest))) (apart 𝓤 H A W κ y) $ split ! $
@@ -116,10 +116,10 @@ module _ {M : Type 1} (𝓤 : URA M) (H : Heap 𝓤) (A : Atoms 𝓤) (W : Given
       (qed W ((‵ (flft κ q) ⊛ ‵ ftrue) ∷ ‵ (owns (SS κ ∷ bool ∷ bool ∷ SS κ ∷ []) (to-behind x y .0 .3) (to-behind x y .0 .4)) ∷ []) ∵ join ! $ frame ! $ done !) $
       frame ! $ done !
 
-  abbrev Told : Taken → Taken → RefT (List ℕ) → Type 0
+  abbrev Told : TakeAnswer → TakeAnswer → RefT (List ℕ) → Type 0
   Told x y z = now z ≡ cond (x .enough) (cond (y .enough) (now (r y)) (now s)) (now s)
 
-  behind-said : (x y : Taken) (z : RefT (List ℕ))
+  behind-said : (x y : TakeAnswer) (z : RefT (List ℕ))
       → ent 𝓤 (ensured 𝓤 H A behind.ended (behind.clauses 𝓤 H A mem run) (κ, tt) (to-behind x y .0 .3) tt z) (fact 𝓤 (Told x y z))
   behind-said x y z = exE 𝓤 _ (λ ws. snd∗ 𝓤 (sem 𝓤 H A (lasts behind.ended (κ, tt) (to-behind x y .0 .3) ws)) (fact 𝓤 (Told x y z)))
 
@@ -131,7 +131,7 @@ module _ {M : Type 1} (𝓤 : URA M) (H : Heap 𝓤) (A : Atoms 𝓤) (W : Given
       says ! e $ move ! (1 ∷ []) $ frame ! $ nothing ! $ move ! (2 ∷ 0 ∷ []) $ fjoin ! $ frame ! $ done !
 
   -- the clauses together
-  chain : (x y : Taken) (n : ℕ) (z : RefT (List ℕ)) → Said (of s) 67 x → n ≡ preimageLen (now (x .part)) → Said (x .rest) n y → Told x y z
+  chain : (x y : TakeAnswer) (n : ℕ) (z : RefT (List ℕ)) → Said (of s) 67 x → n ≡ preimageLen (now (x .part)) → Said (x .rest) n y → Told x y z
       → now z ≡ left (now s) (unlockLen (now s) 0)
   chain x y n z e₁ e₂ e₃ e₄ = unlock-taken (now s) (now (x .part)) (now (x .rest .remaining)) (now (r y)) (now z) n (x .enough) (y .enough)
       (e₁ .0) (e₁ .1) (e₁ .2) e₂ (e₃ .0) (e₃ .2) e₄

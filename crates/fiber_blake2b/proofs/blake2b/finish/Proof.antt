@@ -3,19 +3,19 @@ use Prim.Native.Nat.{_-_, _*_, _≤_}
 use mathlib.Core.Path.{_≡_, refl}
 use lib.ListN.{length, take}
 use borrow.Author.Needs.{needs}
-use Rattle.fiber_blake2b.specs.Blake2b.{wordsBytes}
+use Rattle.fiber_bytes.specs.Bytes.{numbers}
 use Rattle.fiber_blake2b.proofs.Blake2bLaws.{bytes-length, bytes-more, bytes-all}
 use Rattle.fiber_blake2b.proofs.blake2b.finish.Statement.{statement}
 use Rattle.fiber_blake2b.proofs.blake2b.finish.Tie as tie
 
 abbrev Inv-loop : tie.InvT-loop
-Inv-loop h n out₀ i₀ out i = (i ≤ n) × (length out ≡ 8 * n) × (take (8 * i) out ≡ wordsBytes (take i h))
+Inv-loop h n out₀ i₀ out i = (i ≤ n) × (length out ≡ 8 * n) × (take (8 * i) out ≡ numbers (take i h))
 
 abbrev μ-loop : tie.MeasureT-loop
 μ-loop h n out₀ i₀ out i = n - i
 
 loop-holds : tie.Need-loop-holds Inv-loop μ-loop
-unfolding wordsBytes
+unfolding numbers
 loop-holds c = (search needs, search needs, refl)
 
 loop-again : tie.Need-loop-again Inv-loop μ-loop

@@ -9,7 +9,7 @@ use lib.ListN.{length, length-set}
 use Rattle.fiber_types.specs.Records.{validHashLen}
 use Rattle.fiber_types.proofs.RecordsLaws.{hash-len-small}
 use Rattle.fiber_choice.specs.Request.{SettlementData, validData}
-use Rattle.fiber_choice.proofs.FirstRecordsLaws.{share-length, data-unknown, data-bad, data-valid, data-many, data-small, data-flat, data-short, data-remote, data-local, wrote-length}
+use Rattle.fiber_choice.proofs.FirstRecordsLaws.{share-by-length, data-unknown, data-bad, data-valid, data-many, data-small, data-flat, data-short, data-puts, wrote-length}
 use borrow.Author.Needs.{needs}
 use Rattle.fiber_first.proofs.first.settlement_data_witness.Statement.{statement}
 use Rattle.fiber_first.proofs.first.settlement_data_witness.Tie as tie
@@ -18,11 +18,11 @@ use Rattle.fiber_first.proofs.first.settlement_data_witness.Lts as lts
 use Rattle.fiber_bytes.proofs.put.Reads as put-reads
 use Rattle.fiber_types.proofs.tlc.valid_hash_len.Reads as valid-hash-len-reads
 use Rattle.fiber_first.proofs.built.put_first_tlcs.Reads as put-first-tlcs-reads
-use Rattle.fiber_first.proofs.built.share_of.Reads as share-of-reads
+use Rattle.fiber_first.proofs.built.share_by.Reads as share-by-reads
 use Rattle.fiber_first.proofs.entries.valid_data.Reads as valid-data-reads
 
 -- the settlement data
-abbrev given-data : lts.Start (valid-hash-len-reads.Asked, valid-hash-len-reads.Learnt, valid-data-reads.Asked, valid-data-reads.Learnt, share-of-reads.Asked, share-of-reads.Learnt, put-first-tlcs-reads.Asked, put-first-tlcs-reads.Learnt, put-reads.Asked, put-reads.Learnt) reads.Pre reads.Post → SettlementData
+abbrev given-data : lts.Start (valid-hash-len-reads.Asked, valid-hash-len-reads.Learnt, valid-data-reads.Asked, valid-data-reads.Learnt, share-by-reads.Asked, share-by-reads.Learnt, put-first-tlcs-reads.Asked, put-first-tlcs-reads.Learnt, put-reads.Asked, put-reads.Learnt) reads.Pre reads.Post → SettlementData
 given-data s = record {
   tlcs = s .args .tlcs .now;
   localAmount = s .args .local-amount;
@@ -47,7 +47,7 @@ returns-3 c =
     data-many (a .h) (a .for-remote) (given-data (c .before .before .before .before .before .before .before .before .before)) (a .out .now) (sym (c .before .before .before .before .valid-hash-len .ensures) ∙ not-false _ (c .before .before .before .if1 .left)) (sym (c .before .before .valid-data .ensures (a .local-amount) (a .remote-amount)) ∙ not-false _ (c .before .if2 .left)) (c .if3 .taken)
 
 -- what the tests say
-tests : (c : lts.Else3 (valid-hash-len-reads.Asked, valid-hash-len-reads.Learnt, valid-data-reads.Asked, valid-data-reads.Learnt, share-of-reads.Asked, share-of-reads.Learnt, put-first-tlcs-reads.Asked, put-first-tlcs-reads.Learnt, put-reads.Asked, put-reads.Learnt) reads.Pre reads.Post)
+tests : (c : lts.Else3 (valid-hash-len-reads.Asked, valid-hash-len-reads.Learnt, valid-data-reads.Asked, valid-data-reads.Learnt, share-by-reads.Asked, share-by-reads.Learnt, put-first-tlcs-reads.Asked, put-first-tlcs-reads.Learnt, put-reads.Asked, put-reads.Learnt) reads.Pre reads.Post)
     → (validHashLen (c .before .before .before .before .before .before .before .before .before .args .h) ≡ true)
     × ((validData (given-data (c .before .before .before .before .before .before .before .before .before)) ≡ true)
     × (length (c .before .before .before .before .before .before .before .before .before .args .tlcs .now) / 124 ≤ 255))
@@ -94,45 +94,27 @@ sub-put : tie.Need-sub-put
 sub-put c = omega arith
 
 slice-aggregate-put : tie.Need-slice-aggregate-put
-slice-aggregate-put c = sym (ap length (c .before .before .before .before .before .before .before .share-of2 .ensures) ∙ share-length _ _)
+slice-aggregate-put c =
+    let a = c .before .before .before .before .before .before .before .before .before .before .before .before .before .before .before .before .before .before .args in
+    sym (ap length (c .before .before .before .before .before .before .before .share-by .ensures) ∙ share-by-length (a .for-remote) (a .remote-key .now) (a .remote-amount) (a .local-key .now) (a .local-amount))
 
 sub-put-2 : tie.Need-sub-put-2
 sub-put-2 c = omega arith
 
 slice-aggregate-put-2 : tie.Need-slice-aggregate-put-2
-slice-aggregate-put-2 c = sym (ap length (c .before .before .before .before .before .before .before .before .before .before .before .before .before .share-of .ensures) ∙ share-length _ _)
-
-sub-put-3 : tie.Need-sub-put-3
-sub-put-3 c = omega arith
-
-slice-aggregate-put-3 : tie.Need-slice-aggregate-put-3
-slice-aggregate-put-3 c = sym (ap length (c .before .before .before .before .before .before .before .before .share-of .ensures) ∙ share-length _ _)
-
-sub-put-4 : tie.Need-sub-put-4
-sub-put-4 c = omega arith
-
-slice-aggregate-put-4 : tie.Need-slice-aggregate-put-4
-slice-aggregate-put-4 c = sym (ap length (c .before .before .before .before .before .before .before .before .before .before .before .before .share-of2 .ensures) ∙ share-length _ _)
+slice-aggregate-put-2 c =
+    let a = c .before .before .before .before .before .before .before .before .before .before .before .before .before .before .before .before .before .before .before .before .before .before .before .args in
+    sym (ap length (c .before .before .before .before .before .before .before .before .before .before .before .share-by2 .ensures) ∙ share-by-length (a .for-remote) (a .local-key .now) (a .local-amount) (a .remote-key .now) (a .remote-amount))
 
 returns-5 : tie.Need-returns-5
 returns-5 c =
-    let a = c .before .before .before .before .before .before .before .before .before .before .before .before .before .before .before .before .before .before .before .before .before .before .before .before .before .before .before .args in
-    let t = tests (c .before .before .before .before .before .before .before .before .before .before .before .before .before .before .before .before .before .before) in
-    data-remote (a .h) (a .for-remote) (given-data (c .before .before .before .before .before .before .before .before .before .before .before .before .before .before .before .before .before .before .before .before .before .before .before .before .before .before .before)) (a .out .now) (t .0) (t .1 .0) (t .1 .1) (c .before .before .before .before .before .before .before .before .before .before .before .before .before .before .before .before .before .if4 .left) _ _ _ _ _ (c .before .before .before .before .before .before .before .before .before .before .before .before .before .before .before .before .share-of .ensures) (c .before .before .before .before .before .before .before .before .before .before .before .before .before .before .before .share-of2 .ensures) (c .before .before .before .before .before .before .before .before .before .before .before .before .before .put-first-tlcs .ensures)
-    (c .before .before .before .before .before .before .before .before .before .before .if5 .taken) (c .before .before .before .before .before .before .before .put .ensures) (c .before .before .put2 .ensures)
-
-returns-6 : tie.Need-returns-6
-returns-6 c =
-    let a = c .before .before .before .before .before .before .before .before .before .before .before .before .before .before .before .before .before .before .before .before .before .before .before .before .before .before .before .args in
-    let t = tests (c .before .before .before .before .before .before .before .before .before .before .before .before .before .before .before .before .before .before) in
-    data-local (a .h) (a .for-remote) (given-data (c .before .before .before .before .before .before .before .before .before .before .before .before .before .before .before .before .before .before .before .before .before .before .before .before .before .before .before)) (a .out .now) (t .0) (t .1 .0) (t .1 .1) (c .before .before .before .before .before .before .before .before .before .before .before .before .before .before .before .before .before .if4 .left) _ _ _ _ _ (c .before .before .before .before .before .before .before .before .before .before .before .before .before .before .before .before .share-of .ensures) (c .before .before .before .before .before .before .before .before .before .before .before .before .before .before .before .share-of2 .ensures) (c .before .before .before .before .before .before .before .before .before .before .before .before .before .put-first-tlcs .ensures)
-    (c .before .before .before .before .before .before .before .before .before .before .if5 .left) (c .before .before .before .before .before .before .before .put3 .ensures) (c .before .before .put4 .ensures)
+    let a = c .before .before .before .before .before .before .before .before .before .before .before .before .before .before .before .before .before .before .before .before .before .before .before .before .before .before .args in
+    let t = tests (c .before .before .before .before .before .before .before .before .before .before .before .before .before .before .before .before .before) in
+    data-puts (a .h) (a .for-remote) (given-data (c .before .before .before .before .before .before .before .before .before .before .before .before .before .before .before .before .before .before .before .before .before .before .before .before .before .before)) (a .out .now) (t .0) (t .1 .0) (t .1 .1) (c .before .before .before .before .before .before .before .before .before .before .before .before .before .before .before .before .if4 .left) _ _ _ _ _
+    (c .before .before .before .before .before .before .before .before .before .before .before .before .before .before .before .share-by .ensures) (c .before .before .before .before .before .before .before .before .before .before .before .before .before .before .share-by2 .ensures) (c .before .before .before .before .before .before .before .before .before .before .before .before .put-first-tlcs .ensures) (c .before .before .before .before .before .before .before .put .ensures) (c .before .before .put2 .ensures)
 
 same-length : tie.Need-same-length
 same-length c = ap length (returns-5 c .1) ∙ wrote-length _ _ _ _
-
-same-length-2 : tie.Need-same-length-2
-same-length-2 c = ap length (returns-6 c .1) ∙ wrote-length _ _ _ _
 
 pub settlement-data-witness-spec : {M : Type 1} → statement M
 settlement-data-witness-spec =
@@ -158,13 +140,5 @@ settlement-data-witness-spec =
     sub-put-2
     slice-aggregate-put-2
     (λ c κs. search needs)
-    sub-put-3
-    slice-aggregate-put-3
-    (λ c κs. search needs)
-    sub-put-4
-    slice-aggregate-put-4
-    (λ c κs. search needs)
     same-length
-    returns-5
-    same-length-2
-    returns-6)
+    returns-5)

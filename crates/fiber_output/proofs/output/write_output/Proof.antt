@@ -1,11 +1,12 @@
 -- The plan says of the choice what the definitions say, and its three parts have the lengths that the code adds up.
 -- Where they have room they are written as one; where not, the output stays.
-use Prim.Native.Nat.{_+_, _-_}
+use Prim.Native.Nat.{_+_, _-_, _≤_}
 use native.Mathlib.Omega.{arith}
 use mathlib.Core.Path.{_≡_}
 use mathlib.Core.Logic.{inl, inr, ⊎-elim}
 use lib.ListN.{length}
 use Rattle.fiber_types.specs.Records.{witnessLen}
+use Rattle.fiber_types.proofs.RecordsLaws.{hash-len-small}
 use Rattle.fiber_choice.specs.HandedOut.{Picked}
 use Rattle.fiber_choice.proofs.HandedLaws.{unlock-most, state-small, within-tlcs, within-pairs, unlock-place, new-length, planned, handed-size, handed-short, handed-whole}
 use Rattle.fiber_output.proofs.output.write_output.Reads as reads
@@ -40,29 +41,39 @@ picked s = record {
   place = s .args .place;
 }
 
+-- h is small
+small : (c : lts.Start (plan-of-reads.Asked, plan-of-reads.Learnt, put-joined-reads.Asked, put-joined-reads.Learnt, amount-of-reads.Asked, amount-of-reads.Learnt, record-size-reads.Asked, record-size-reads.Learnt) reads.Pre reads.Post) → c .args .h ≤ 32
+small c = hash-len-small (c .args .h) (c .pre .0 .0)
+
+add-n : tie.Need-add-n
+add-n c = omega (arith, small (c .before .before .before .before))
+
+add-state : tie.Need-add-state
+add-state c = omega (arith, small (c .before .before .before .before .before .before))
+
 mul-state : tie.Need-mul-state
 mul-state c =
     let a = c .before .before .before .before .before .before .args in
     let q = c .before .before .before .before .before .before .pre in
-    omega (arith, state-small (a .h) (a .tracked .now) (q .0 .1 .0) (q .0 .0))
+    omega (arith, state-small (a .h) (a .tracked .now) (q .0 .1 .0) (hash-len-small (a .h) (q .0 .0)))
 
 add-state-2 : tie.Need-add-state-2
 add-state-2 c =
     let a = c .before .before .before .before .before .before .args in
     let q = c .before .before .before .before .before .before .pre in
-    omega (arith, state-small (a .h) (a .tracked .now) (q .0 .1 .0) (q .0 .0))
+    omega (arith, state-small (a .h) (a .tracked .now) (q .0 .1 .0) (hash-len-small (a .h) (q .0 .0)))
 
 add-size : tie.Need-add-size
 add-size c =
     let a = c .before .before .before .before .before .before .before .before .args in
     let q = c .before .before .before .before .before .before .before .before .pre in
-    omega (arith, state-small (a .h) (a .tracked .now) (q .0 .1 .0) (q .0 .0), unlocked (c .before .before), unlock-most (c .before .before .before .plan-of .result .flag))
+    omega (arith, state-small (a .h) (a .tracked .now) (q .0 .1 .0) (hash-len-small (a .h) (q .0 .0)), unlocked (c .before .before), unlock-most (c .before .before .before .plan-of .result .flag))
 
 add-size-2 : tie.Need-add-size-2
 add-size-2 c =
     let a = c .before .before .before .before .before .before .before .before .before .args in
     let q = c .before .before .before .before .before .before .before .before .before .pre in
-    omega (arith, state-small (a .h) (a .tracked .now) (q .0 .1 .0) (q .0 .0), unlocked (c .before .before .before), unlock-most (c .before .before .before .before .plan-of .result .flag), newly (c .before .before))
+    omega (arith, state-small (a .h) (a .tracked .now) (q .0 .1 .0) (hash-len-small (a .h) (q .0 .0)), unlocked (c .before .before .before), unlock-most (c .before .before .before .before .plan-of .result .flag), newly (c .before .before))
 
 returns : tie.Need-returns
 returns c =
@@ -75,13 +86,16 @@ put-joined-requires c κs =
     let a = c .before .before .before .before .before .before .before .before .before .before .before .before .before .args in
     let q = c .before .before .before .before .before .before .before .before .before .before .before .before .before .pre in
     let k = planned (a .h) (a .args .now) (a .tracked .now) (a .preimages .now) (a .out .now) (picked (c .before .before .before .before .before .before .before .before .before .before .before .before .before)) _ (c .before .before .before .before .before .before .before .before .plan-of .ensures) (q .0 .1 .1) (shares (c .before .before .before .before .before .before .before .before .before .before .before .before .before) .0) (shares (c .before .before .before .before .before .before .before .before .before .before .before .before .before) .1) (within-pairs _ _ _ (q .1)) (q .0 .1 .0) (within-tlcs _ _ _ (q .1)) in
-    ((q .0 .0, shares (c .before .before .before .before .before .before .before .before .before .before .before .before .before)), ((q .0 .1 .0, (q .0 .1 .1, k .0)), (k .1, omega (arith, c .before .before .before .if3 .left, handed-size (a .h) (a .args .now) (a .tracked .now) (a .preimages .now) (a .out .now) (picked (c .before .before .before .before .before .before .before .before .before .before .before .before .before)) _ (c .before .before .before .before .before .before .before .before .plan-of .ensures) (q .0 .1 .1) (shares (c .before .before .before .before .before .before .before .before .before .before .before .before .before) .0) (shares (c .before .before .before .before .before .before .before .before .before .before .before .before .before) .1) (within-pairs _ _ _ (q .1)) _ _ (unlocked (c .before .before .before .before .before .before .before)) (newly (c .before .before .before .before .before .before))))))
+    ((hash-len-small (a .h) (q .0 .0), shares (c .before .before .before .before .before .before .before .before .before .before .before .before .before)), ((q .0 .1 .0, (q .0 .1 .1, k .0)), (k .1, omega (arith, c .before .before .before .if3 .left, handed-size (a .h) (a .args .now) (a .tracked .now) (a .preimages .now) (a .out .now) (picked (c .before .before .before .before .before .before .before .before .before .before .before .before .before)) _ (c .before .before .before .before .before .before .before .before .plan-of .ensures) (q .0 .1 .1) (shares (c .before .before .before .before .before .before .before .before .before .before .before .before .before) .0) (shares (c .before .before .before .before .before .before .before .before .before .before .before .before .before) .1) (within-pairs _ _ _ (q .1)) _ _ (unlocked (c .before .before .before .before .before .before .before)) (newly (c .before .before .before .before .before .before))))))
 
 amount-of-requires : tie.Need-amount-of-requires
 amount-of-requires c κs =
     let a = c .before .before .before .before .before .before .before .before .before .before .before .before .before .before .before .before .before .before .args in
     let q = c .before .before .before .before .before .before .before .before .before .before .before .before .before .before .before .before .before .before .pre in
     ((q .0 .0, shares (c .before .before .before .before .before .before .before .before .before .before .before .before .before .before .before .before .before .before)), within-tlcs _ _ _ (q .1))
+
+record-size-requires : tie.Need-record-size-requires
+record-size-requires c κs = small (c .before .before .before .before .before .before .before .before .before .before .before .before .before .before .before .before .before .before .before)
 
 returns-2 : tie.Need-returns-2
 returns-2 c =
@@ -93,10 +107,10 @@ pub write-output-spec : {M : Type 1} → statement M
 write-output-spec =
     tie.close
     (tie.spec
-    (λ c. search needs)
+    add-n
     (λ c. search needs)
     (λ c κs. search needs)
-    (λ c. search needs)
+    add-state
     mul-state
     add-state-2
     add-size
@@ -108,6 +122,6 @@ write-output-spec =
     (λ c. search needs)
     (λ c. search needs)
     amount-of-requires
-    (λ c κs. search needs)
+    record-size-requires
     (λ c. search needs)
     returns-2)

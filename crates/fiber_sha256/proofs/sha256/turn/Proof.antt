@@ -5,7 +5,7 @@ use Rattle.fiber_sha256.proofs.sha256.turn.Statement.{statement}
 use Rattle.fiber_sha256.proofs.sha256.turn.Tie as tie
 
 returns : tie.Need-returns
-returns c = let s = c .before .before .before .before .before .before in turned-by (s .args .k .now) (s .args .w .now) _ (s .args .i) _ _ _ _ (s .pre .1) (c .before .before .before .first .ensures) (c .before .before .second .ensures) (c .before .wrapping-add-u32 .ensures) (c .wrapping-add-u322 .ensures)
+returns c = let s = c .before .before .before .before .before .before in turned-by (s .args .k .now) (s .args .w .now) _ (s .args .i) _ _ _ _ (s .pre .1) (c .before .before .before .t1 .ensures) (c .before .before .t2 .ensures) (c .before .wrapping-add-u32 .ensures) (c .wrapping-add-u322 .ensures)
 
 pub turn-spec : {M : Type 1} → statement M
 turn-spec =

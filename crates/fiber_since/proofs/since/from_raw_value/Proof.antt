@@ -6,7 +6,7 @@ use Rattle.fiber_since.proofs.since.from_raw_value.Tie as tie
 
 returns : tie.Need-returns
 unfolding since
-returns c = cc
+returns c = rw (c .metric-of .ensures)
 
 pub from-raw-value-spec : {M : Type 1} → statement M
 from-raw-value-spec =

@@ -2,7 +2,6 @@
 -- What the walk chooses is among the tracked TLCs, so it can be handed out.
 use Prim.Native.Nat.{_≤_}
 use native.Mathlib.Omega.{arith}
-use mathlib.Core.Logic.{inl, inr, ⊎-elim}
 use lib.ListN.{length}
 use Rattle.fiber_types.proofs.RecordsLaws.{hash-len-small}
 use Rattle.fiber_since.proofs.EpochLaws.{third-within, third-refused}
@@ -46,31 +45,30 @@ returns-3 c =
 
 first-place-requires : tie.Need-first-place-requires
 first-place-requires c κs =
-    let s = c .before .before .before .before .before .before .before .before .before .before .before .before .before .before .before .before .before .before .before .before .before .before .before .before .before in
+    let s = c .before .before .before .before .before .before .before .before .before .before .before .before .before .before .before .before .before .before .before .before .before .before .before in
     let a = s .args in
     let q = requestOf (a .scalars) (a .args .now) (a .tlcs .now) (a .local-key .now) (a .remote-key .now) (a .tracked .now) (a .preimages .now) in
     let ts = entries (trackedLen (s .args .scalars .h)) (s .args .tracked .now) in
     let l : length ts ≤ 255 = omega (arith, s .pre .0 .1 .0) in (
       hash-len-small (s .args .scalars .h) (s .pre .0 .0),
       within-below (length ts) _ 255 _ l
-          (thirds-within q (s .args .out .now) _ _ _ _ _ (c .before .before .before .before .before .before .before .before .before .before .before .before .before .before .before .before .before .mul .ensures) (c .before .before .before .before .before .before .before .before .before .before .before .before .before .before .before .third .given .1) (c .before .before .before .before .before .before .before .before .before .before .before .before .before .mul2 .ensures) (c .before .before .before .before .before .before .before .before .before .before .before .two-thirds .given .1) _ (c .before .before .before .before .before .before .before .before .before .dues-by .ensures) _ (c .before .before .before .before .before .before .before .before .walked .ensures) _ _ (c .before .before .before .before .before .before .choice .given .1) (s .pre .1 .0)),
+          (thirds-within q (s .args .out .now) _ _ _ _ _ (c .before .before .before .before .before .before .before .before .before .before .before .before .before .before .before .mul .ensures) (c .before .before .before .before .before .before .before .before .before .before .before .before .before .third .given .1) (c .before .before .before .before .before .before .before .before .before .before .before .mul2 .ensures) (c .before .before .before .before .before .before .before .before .before .two-thirds .given .1) _ (c .before .before .before .before .before .before .before .dues-by .ensures) _ (c .before .before .before .before .before .before .walked .ensures) _ _ (c .before .before .before .before .choice .given .1) (s .pre .1 .0)),
     )
 
 write-output-requires : tie.Need-write-output-requires
 write-output-requires c κs =
-    let s = c .before .before .before .before .before .before .before .before .before .before .before .before .before .before .before .before .before .before .before .before .before .before .before .before .before .before .before in
+    let s = c .before .before .before .before .before .before .before .before .before .before .before .before .before .before .before .before .before .before .before .before .before .before .before .before .before in
     let a = s .args in
     let q = requestOf (a .scalars) (a .args .now) (a .tlcs .now) (a .local-key .now) (a .remote-key .now) (a .tracked .now) (a .preimages .now) in (
-      (hash-len-small (s .args .scalars .h) (s .pre .0 .0), s .pre .0 .1),
-      thirds-within q (s .args .out .now) _ _ _ _ _ (c .before .before .before .before .before .before .before .before .before .before .before .before .before .before .before .before .before .before .before .mul .ensures) (c .before .before .before .before .before .before .before .before .before .before .before .before .before .before .before .before .before .third .given .1) (c .before .before .before .before .before .before .before .before .before .before .before .before .before .before .before .mul2 .ensures) (c .before .before .before .before .before .before .before .before .before .before .before .before .before .two-thirds .given .1) _ (c .before .before .before .before .before .before .before .before .before .before .before .dues-by .ensures) _ (c .before .before .before .before .before .before .before .before .before .before .walked .ensures) _ _ (c .before .before .before .before .before .before .before .before .choice .given .1) (s .pre .1 .0),
+      s .pre .0,
+      thirds-within q (s .args .out .now) _ _ _ _ _ (c .before .before .before .before .before .before .before .before .before .before .before .before .before .before .before .before .before .mul .ensures) (c .before .before .before .before .before .before .before .before .before .before .before .before .before .before .before .third .given .1) (c .before .before .before .before .before .before .before .before .before .before .before .before .before .mul2 .ensures) (c .before .before .before .before .before .before .before .before .before .before .before .two-thirds .given .1) _ (c .before .before .before .before .before .before .before .before .before .dues-by .ensures) _ (c .before .before .before .before .before .before .before .before .walked .ensures) _ _ (c .before .before .before .before .before .before .choice .given .1) (s .pre .1 .0),
     )
 
 returns-4 : tie.Need-returns-4
 returns-4 c =
-    thirds-chosen _ _ _ _ _ _ _ (c .before .before .before .before .before .before .before .before .before .before .before .before .before .before .before .before .before .before .before .before .before .before .mul .ensures) (c .before .before .before .before .before .before .before .before .before .before .before .before .before .before .before .before .before .before .before .before .third .given .1) (c .before .before .before .before .before .before .before .before .before .before .before .before .before .before .before .before .before .before .mul2 .ensures) (c .before .before .before .before .before .before .before .before .before .before .before .before .before .before .before .before .two-thirds .given .1)
-    _ (c .before .before .before .before .before .before .before .before .before .before .before .before .before .before .dues-by .ensures) _ (c .before .before .before .before .before .before .before .before .before .before .before .before .before .walked .ensures) _ _ (c .before .before .before .before .before .before .before .before .before .before .before .choice .given .1) _ _ _ _
-    (remote-by _ _ _ _ _ (c .before .before .before .before .before .before .before .before .before .share-of .ensures) (c .before .before .before .before .before .before .before .before .share-of2 .ensures) (⊎-elim (λ x. inl (x .0 .taken, x .1)) (λ x. inr (x .0 .left, x .1)) (c .before .before .before .before .before .before .before .if1 .came)))
-    (local-by _ _ _ _ _ (c .before .before .before .before .before .before .before .before .before .share-of .ensures) (c .before .before .before .before .before .before .before .before .share-of2 .ensures) (⊎-elim (λ x. inl (x .0 .taken, x .1)) (λ x. inr (x .0 .left, x .1)) (c .before .before .before .before .before .before .if2 .came)))
+    thirds-chosen _ _ _ _ _ _ _ (c .before .before .before .before .before .before .before .before .before .before .before .before .before .before .before .before .before .before .before .before .mul .ensures) (c .before .before .before .before .before .before .before .before .before .before .before .before .before .before .before .before .before .before .third .given .1) (c .before .before .before .before .before .before .before .before .before .before .before .before .before .before .before .before .mul2 .ensures) (c .before .before .before .before .before .before .before .before .before .before .before .before .before .before .two-thirds .given .1)
+    _ (c .before .before .before .before .before .before .before .before .before .before .before .before .dues-by .ensures) _ (c .before .before .before .before .before .before .before .before .before .before .before .walked .ensures) _ _ (c .before .before .before .before .before .before .before .before .before .choice .given .1) _ _ _ _
+    (remote-by _ _ _ (c .before .before .before .before .before .before .before .share-by .ensures)) (local-by _ _ _ (c .before .before .before .before .before .before .share-by2 .ensures))
     (c .before .before .before .before .before .delay-for .ensures) (c .before .before .before .before .first-place .ensures) _ _ (c .before .before .write-output .ensures)
 
 pub first-thirds-spec : {M : Type 1} → statement M

@@ -42,14 +42,14 @@ returns-2 c =
     let j = c .before .before .before .before .before .before in
     let n = j .before .before in
     leaves-as _ _ (later-whole _ _ _ _ _ _ _ (sym (n .before .before .read .ensures) ∙ n .n .given .1)) _ _
-    (later-faulty _ _ _ _ _ _ _ _ _ _ (j .take-unlocks .ensures) _ _ (c .before .answer .given .1))
+    (later-faulty _ _ _ _ _ _ _ _ _ _ (j .take-unlocks .ensures _) _ _ (c .before .answer .given .1))
 
 returns-3 : tie.Need-returns-3
 returns-3 c =
     let j = c .before .before .before .before .before .before .before .before .before in
     let n = j .before .before in
     leaves-as _ _
-    (later-fine _ _ _ _ _ _ _ _ _ _ (j .take-unlocks .ensures) _ _ (c .before .before .before .before .enum-told .given .1) (c .before .before .before .before .before .before .before .share-left .ensures) (c .before .before .before .before .before .before .share-left2 .ensures)
+    (later-fine _ _ _ _ _ _ _ _ _ _ (j .take-unlocks .ensures _) _ _ (c .before .before .before .before .enum-told .given .1) (c .before .before .before .before .before .before .before .share-left .ensures) (c .before .before .before .before .before .before .share-left2 .ensures)
     ∙ later-whole _ _ _ _ _ _ _ (sym (n .before .before .read .ensures) ∙ n .n .given .1))
     _ _ (c .before .before .later-state .ensures)
 

@@ -35,7 +35,7 @@ write-output-requires c κs =
     let p = by-flag _ _ _ _ (⊎-elim (λ x. inl (x .0 .taken, x .1)) (λ x. inr (x .0 .left, x .1)) (c .before .before .before .before .before .before .before .before .before .before .if1 .came)) in
     let o = by-flag _ _ _ _ (⊎-elim (λ x. inl (x .0 .taken, x .1)) (λ x. inr (x .0 .left, x .1)) (c .before .before .before .before .before .before .before .before .before .if2 .came)) in (
       (
-        hash-len-small (s .args .scalars .h) (s .pre .0),
+        s .pre .0,
         (state-few _ (s .args .out .now) _ (s .args .w .now) _ _ _ _ p o _ e (c .before .before .before .before .before .before .enum-told .given .1), s .pre .1 .1 .1),
       ),
       state-within _ (s .args .out .now) _ (s .args .w .now) _ _ _ _ p o _ e (c .before .before .before .before .before .before .enum-told .given .1) _ f _ _ (c .before .before .before .choice .given .1),

@@ -1,8 +1,7 @@
 -- By the expiry, then by the kind.
 -- What is read of the record is read of the tracked TLC behind its first 33 bytes; it is whole, so that reading it never fails.
-use mathlib.Core.Path.{sym, ap, _∙_}
+use mathlib.Core.Path.{_∙_}
 use mathlib.Core.Bool.{true, false}
-use native.Mathlib.Omega.{arith}
 use Rattle.fiber_types.proofs.RecordsLaws.{hash-len-small}
 use Rattle.fiber_choice.specs.Walk.{noExpiry}
 use Rattle.fiber_choice.specs.Entries.{entries, pairLen}

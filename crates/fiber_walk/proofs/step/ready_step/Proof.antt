@@ -1,6 +1,5 @@
 -- Whatever the time, and however many are pending.
 use Rattle.fiber_choice.proofs.VerdictsLaws.{step-ready}
-use borrow.Author.Needs.{needs}
 use Rattle.fiber_walk.proofs.step.ready_step.Statement.{statement}
 use Rattle.fiber_walk.proofs.step.ready_step.Tie as tie
 

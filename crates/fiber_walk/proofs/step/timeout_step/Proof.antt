@@ -1,6 +1,5 @@
 -- Behind the expiry, and before it has passed.
 use Rattle.fiber_choice.proofs.VerdictsLaws.{timeout-before, timeout-behind}
-use borrow.Author.Needs.{needs}
 use Rattle.fiber_walk.proofs.step.timeout_step.Statement.{statement}
 use Rattle.fiber_walk.proofs.step.timeout_step.Tie as tie
 

@@ -29,9 +29,7 @@ returns : tie.Need-returns Inv-loop μ-loop
 returns c =
     let s = c .before in
     let l = s .before .before .before .before .before .loop in
-    let r = c .refused .ensures in
-    rw (r .0, r .1 .0, r .1 .1 .0, r .1 .1 .1)
-    (taking-beyond _ _ _ _ _ _ _ (l .inv) (omega arith) (s .before .before .if1 .left) (s .before .if2 .left) (s .if3 .taken))
+    taking-beyond _ _ _ _ _ _ _ (l .inv) (omega arith) (s .before .before .if1 .left) (s .before .if2 .left) (s .if3 .taken) _ (c .refused .ensures) _ _ _
 
 array-read-if4 : tie.Need-array-read-if4 Inv-loop μ-loop
 array-read-if4 c = omega (arith, c .before .before .before .shared-slice-known2 .given (c .before .before .before .before .before .loop .at))
@@ -40,9 +38,7 @@ returns-2 : tie.Need-returns-2 Inv-loop μ-loop
 returns-2 c =
     let s = c .before in
     let l = s .before .before .before .before .before .before .loop in
-    let r = c .refused2 .ensures in
-    rw (r .0, r .1 .0, r .1 .1 .0, r .1 .1 .1)
-    (taking-twice _ _ _ _ _ _ _ (l .inv) (omega arith) (s .before .before .before .if1 .left) (s .before .before .if2 .left) (s .before .if3 .left) (s .if4 .taken))
+    taking-twice _ _ _ _ _ _ _ (l .inv) (omega arith) (s .before .before .before .if1 .left) (s .before .before .if2 .left) (s .before .if3 .left) (s .if4 .taken) _ (c .refused2 .ensures) _ _ _
 
 array-write-marks : tie.Need-array-write-marks Inv-loop μ-loop
 array-write-marks c = omega (arith, c .before .before .before .before .shared-slice-known2 .given (c .before .before .before .before .before .before .loop .at))

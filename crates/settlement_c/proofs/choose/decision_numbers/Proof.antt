@@ -1,5 +1,6 @@
 -- The numbers of the choice, of the key and of the delay, each where it stands.
-use Rattle.settlement_c.specs.Choose.{choiceNumbers, decisionNumbers}
+use Rattle.settlement_c.specs.Choose.{decisionNumbers}
+use Rattle.settlement_c.specs.inner.Numbers.{choiceNumbers}
 use Rattle.settlement_c.proofs.ChooseLaws.{key-two, delay-four}
 use borrow.Author.Needs.{needs}
 use Rattle.settlement_c.proofs.choose.decision_numbers.Statement.{statement}

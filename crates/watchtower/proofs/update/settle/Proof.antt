@@ -5,7 +5,7 @@ use Prim.Native.Nat.{_+_}
 use mathlib.Core.Path.{sym, ap, _∙_}
 use lib.ListN.{length}
 use Rattle.fiber_bytes.proofs.BytesLaws.{part-length}
-use Rattle.fiber_witness.specs.Witness.{sharePlace}
+use Rattle.fiber_witness.specs.inner.Strided.{sharePlace}
 use Rattle.fiber_witness.proofs.UpdateLaws.{part-between, counted, counted-room, counted-flat, counted-size, settled-refused, settled-short, settled-written}
 use Rattle.fiber_witness.proofs.StridedLaws.{unmarked-standing, unmarked-left}
 use borrow.Author.Needs.{needs}
@@ -25,7 +25,7 @@ add-size-2 c =
 returns : tie.Need-returns
 returns c =
     let s = c .before .before .before .before .before .before .before .before in
-    settled-short (s .args .h) (s .args .w .now) (s .args .out .now) (s .args .n) _ _ _ _ _ _ (c .before .before .before .before .before .take-unlocks .ensures) (c .before .before .enum-told .given .1) _
+    settled-short (s .args .h) (s .args .w .now) (s .args .out .now) (s .args .n) _ _ _ _ _ _ (c .before .before .before .before .before .take-unlocks .ensures _) (c .before .before .enum-told .given .1) _
     (counted-size (s .args .h) (s .args .w .now) (s .args .n) _ _ (c .before .count-standing .ensures) _ _ (s .pre .1))
     (c .if1 .taken)
 
@@ -54,13 +54,13 @@ put-state-requires c κs =
 
 returns-2 : tie.Need-returns-2
 returns-2 c =
-    settled-refused _ _ _ _ _ _ _ _ _ _ (c .before .before .before .before .take-unlocks .ensures) _ _ (c .before .answer .given .1)
+    settled-refused _ _ _ _ _ _ _ _ _ _ (c .before .before .before .before .take-unlocks .ensures _) _ _ (c .before .answer .given .1)
 
 returns-3 : tie.Need-returns-3
 returns-3 c =
     let b = c .before .before .before .before .before .before .before in
     let s = b .before .before .before .before .before .before .before in
-    settled-written (s .args .h) (s .args .w .now) (s .args .out .now) (s .args .n) _ _ _ _ _ _ (b .before .before .before .before .take-unlocks .ensures) (b .before .enum-told .given .1) _
+    settled-written (s .args .h) (s .args .w .now) (s .args .out .now) (s .args .n) _ _ _ _ _ _ (b .before .before .before .before .take-unlocks .ensures _) (b .before .enum-told .given .1) _
     (counted-size (s .args .h) (s .args .w .now) (s .args .n) _ _ (b .count-standing .ensures) _ _ (s .pre .1))
     (c .before .before .before .before .before .before .if1 .left) _
     (unmarked-left (s .args .h) (s .args .w .now) (s .args .n) (sharePlace (s .args .h) (s .args .n)) _ _ _ _ _ (c .before .before .put-state .ensures .1))

@@ -46,11 +46,11 @@ use denote.Exit.{yes}
 use denote.Triple.Clauses.{ensured, lasts}
 use Rattle.witness_reader.specs.Reader.{taken, left}
 use Rattle.witness_reader.specs.declared.WitnessReader.{WitnessReader}
-use Rattle.witness_reader.specs.declared.Taken.{Taken}
+use Rattle.witness_reader.specs.declared.TakeAnswer.{TakeAnswer}
 use Rattle.witness_reader.proofs.WitnessReader as T
 use Rattle.witness_reader.proofs.WitnessReader.Laws as T′
-use Rattle.witness_reader.proofs.Taken as K
-use Rattle.witness_reader.proofs.Taken.Laws as K′
+use Rattle.witness_reader.proofs.TakeAnswer as K
+use Rattle.witness_reader.proofs.TakeAnswer.Laws as K′
 use Rattle.witness_reader.proofs.has as has
 use Rattle.witness_reader.proofs.has.Symbol as has-def
 use Rattle.witness_reader.proofs.has.Symbol.{name as #witness-reader·has}
@@ -161,7 +161,7 @@ module _ {M : Type 1} (𝓤 : URA M) (H : Heap 𝓤) (A : Atoms 𝓤) (W : Given
   back-gave u = later (some (λ (z : RefT (List ℕ)). ((‵ (flft κ q) ⊛ ‵ ftrue) ⊛ ‵ (SS .own z (u ∷ [])))
       ⊛ raw (ensured 𝓤 H A back.ended (back.clauses 𝓤 H A mem run) (κ, tt) (s, (n, tt)) tt z)))
 
-  abbrev made : Bool → RefT (List ℕ) → RefT (List ℕ) → Taken
+  abbrev made : Bool → RefT (List ℕ) → RefT (List ℕ) → TakeAnswer
   made t p z = record { enough = t; part = p; rest = record { remaining = z } }
 
   exits : (t : Bool) (p z : RefT (List ℕ)) → t ≡ leb n (length (now s)) → now p ≡ taken (now s) n → now z ≡ left (now s) n
