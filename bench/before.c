@@ -340,11 +340,8 @@ static void *library(const char *path) {
     return found;
 }
 
-/* A function under its name, or under the name that it had before it was public. */
-static void *function(void *from, const char *name, const char *older) {
+static void *function(void *from, const char *name) {
     void *found = dlsym(from, name);
-    if (!found)
-        found = dlsym(from, older);
     if (!found) {
         fprintf(stderr, "before: %s\n", dlerror());
         exit(2);
@@ -358,14 +355,14 @@ int main(int count, char **args) {
         return 2;
     }
     void *types = library(args[1]);
-    ckb_hash = (Hash *)function(types, "fiber_settlement_ckb_hash", "fiber_test_ckb_hash");
-    sha256 = (Hash *)function(types, "fiber_settlement_sha256", "fiber_test_sha256");
+    ckb_hash = (Hash *)function(types, "fiber_test_ckb_hash");
+    sha256 = (Hash *)function(types, "fiber_test_sha256");
     for (int side = 0; side < SIDES; side++) {
         void *from = library(args[2 + side]);
-        sides[side].read = (Read *)function(from, "fiber_settlement_read", "");
-        sides[side].update = (Update *)function(from, "fiber_settlement_update", "");
-        sides[side].choose = (Choose *)function(from, "fiber_settlement_choose", "");
-        first_state = (FirstState *)function(from, "fiber_settlement_first_state", "fiber_test_data_witness");
+        sides[side].read = (Read *)function(from, "fiber_settlement_read");
+        sides[side].update = (Update *)function(from, "fiber_settlement_update");
+        sides[side].choose = (Choose *)function(from, "fiber_settlement_choose");
+        first_state = (FirstState *)function(from, "fiber_test_data_witness");
     }
     wanted = count > 4 ? args[4] : NULL;
     for (u64 h = 20; h <= 32; h += 12) {

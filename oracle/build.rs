@@ -15,22 +15,6 @@ use std::{env, fs, process};
 /// The port's libraries: the C interface of the lower face, and that of the upper one.
 const LIBRARIES: &[&str] = &["types_c", "settlement_c"];
 
-/// The port's exports that the oracle can call. One that the libraries lack is left out of the build: its kind then
-/// says so when it is asked for. src/port.rs declares them.
-const EXPORTS: &[&str] = &[
-    "fiber_test_mul",
-    "fiber_test_is_due",
-    "fiber_test_absolute_expiry",
-    "fiber_test_key_hash",
-    "fiber_test_ckb_hash",
-    "fiber_test_sha256",
-    "fiber_settlement_read",
-    "fiber_settlement_update",
-    "fiber_settlement_choose",
-    "fiber_test_tlc_witness",
-    "fiber_test_data_witness",
-];
-
 /// What is taken from a file.
 enum Take {
     /// A whole item, with the comments and attributes right above it.
@@ -270,52 +254,17 @@ fn write(path: &Path, text: &str) {
     }
 }
 
-/// Links the port's libraries and tells the crate, by `cfg(port_has = "..")`, which exports they have.
+/// Links the port's libraries.
 fn link(folder: &Path) {
     println!("cargo:rustc-link-search=native={}", folder.display());
-    let mut archives = Vec::new();
     for name in LIBRARIES {
         let library = folder.join(format!("lib{name}.a"));
+        if !library.is_file() {
+            fail(&format!("SETTLEMENT_LIB has no lib{name}.a (there is no {}).", library.display()));
+        }
         println!("cargo:rerun-if-changed={}", library.display());
         println!("cargo:rustc-link-lib=static={name}");
-        match fs::read(&library) {
-            Ok(bytes) => archives.push((library, bytes)),
-            Err(e) => {
-                fail(&format!("SETTLEMENT_LIB has no readable lib{name}.a ({}: {e}).", library.display()))
-            }
-        }
     }
-    let mut exported = Vec::new();
-    for (library, bytes) in &archives {
-        let Some(symbols) = symbols(bytes) else {
-            fail(&format!(
-                "{} is no archive with an index of its symbols (GNU's format).",
-                library.display()
-            ));
-        };
-        exported.extend(symbols);
-    }
-    for name in EXPORTS {
-        println!("cargo:rustc-check-cfg=cfg(port_has, values(\"{name}\"))");
-        if exported.contains(&name.as_bytes()) {
-            println!("cargo:rustc-cfg=port_has=\"{name}\"");
-        }
-    }
-}
-
-/// The names in an archive's index. The index is the first member: a header of 60 bytes, a count, as many offsets of
-/// 4 bytes, highest byte first, then the names, each ended by a zero byte.
-fn symbols(archive: &[u8]) -> Option<Vec<&[u8]>> {
-    let member = archive.strip_prefix(b"!<arch>\n")?;
-    let header = member.get(..60)?;
-    if !header.starts_with(b"/ ") {
-        return None;
-    }
-    let size: usize = std::str::from_utf8(&header[48..58]).ok()?.trim().parse().ok()?;
-    let index = member.get(60..60 + size)?;
-    let count = u32::from_be_bytes(index.get(..4)?.try_into().ok()?) as usize;
-    let names = index.get(4 + 4 * count..)?;
-    Some(names.split(|byte| *byte == 0).take(count).collect())
 }
 
 /// A file of the reference.

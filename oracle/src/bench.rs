@@ -4,11 +4,11 @@
 //! allocates what it hands out and drops it. Batches of both are timed in turn, and medians are taken, so that what
 //! else the machine does falls on both.
 
-use crate::document::settlement::{self, Asked};
+use crate::document::settlement::{self, Request};
 use crate::document::{Document, Epoch};
 use crate::kinds::first::case;
-use crate::kinds::settlement::{bytes, lent, since_of, Tlc};
-use crate::port::{self, halves};
+use crate::kinds::settlement::{bytes, data_of, since_of, Tlc};
+use crate::port::{halves, CHOOSE, CHOOSE_ANSWER, READ, READ_ANSWER, UPDATE};
 use crate::random::Random;
 use crate::reference::calls;
 use std::hint::black_box;
@@ -77,11 +77,8 @@ fn measured(ours: impl FnMut(), theirs: impl FnMut()) -> (f64, f64) {
     (ours.median(), theirs.median())
 }
 
-/// Prints a table. False where the library lacks an export.
-pub fn run() -> bool {
-    let (Some(read), Some(update)) = (port::READ, port::UPDATE) else {
-        return false;
-    };
+/// Prints the tables.
+pub fn run() {
     println!(
         "Reader and update, {} build of the Rust, median of {BATCHES} batches taken in turn,",
         crate::build()
@@ -97,10 +94,10 @@ pub fn run() -> bool {
         {
             let witness = witness(h, n, unlocks);
             let mut out = vec![0u8; 73 + usize::from(n) * (65 + h)];
-            let mut answer = [0u8; port::READ_ANSWER];
+            let mut answer = [0u8; READ_ANSWER];
             let mut reads = |witness: &[u8]| {
-                // SAFETY: all have the lengths said.
-                unsafe { read(h as u64, witness.as_ptr(), witness.len(), answer.as_mut_ptr(), answer.len()) }
+                // SAFETY: all have the lengths passed.
+                unsafe { READ(h as u64, witness.as_ptr(), witness.len(), answer.as_mut_ptr(), answer.len()) }
             };
             let (read_port, read_rust) = measured(
                 || assert_eq!(reads(black_box(&witness)), 0),
@@ -108,8 +105,8 @@ pub fn run() -> bool {
             );
             let mut updates = |witness: &[u8], out: &mut [u8]| {
                 let (w, o, a) = (witness.as_ptr(), out.as_mut_ptr(), answer.as_mut_ptr());
-                // SAFETY: all have the lengths said.
-                unsafe { update(h as u64, w, witness.len(), o, out.len(), a, answer.len()) }
+                // SAFETY: all have the lengths passed.
+                unsafe { UPDATE(h as u64, w, witness.len(), o, out.len(), a, answer.len()) }
             };
             // The same answer first.
             let state = calls::updated(h as u8, &witness).expect("a whole witness");
@@ -136,7 +133,7 @@ pub fn run() -> bool {
     let mut at_once = || {
         let w = black_box(&empty);
         // SAFETY: no byte of the answer is lent.
-        let number = unsafe { read(20, w.as_ptr(), w.len(), [0; 0].as_mut_ptr(), 0) };
+        let number = unsafe { READ(20, w.as_ptr(), w.len(), [0; 0].as_mut_ptr(), 0) };
         assert_eq!(number, 14);
     };
     let (alone, _) = measured(&mut at_once, || {
@@ -150,14 +147,13 @@ pub fn run() -> bool {
     }
     println!();
     choices();
-    true
 }
 
 /// A settlement of `n` TLCs that are all received and expired, the whole delay due. With `matching` each has a pair,
 /// of which the last alone counts, so that every TLC is walked and the last is chosen. Without, no pair has a TLC's
 /// hash, and in a later settlement no settlement TLC has one either: a first settlement ends at our share, a later one
 /// waits.
-fn asked(h: u64, n: usize, is_later: bool, matching: bool) -> Asked {
+fn request(h: u64, n: usize, is_later: bool, matching: bool) -> Request {
     let mut random = Random::of(1, "bench, choice", n as u64);
     let tlcs: Vec<Tlc> = (0..n)
         .map(|place| Tlc {
@@ -170,7 +166,7 @@ fn asked(h: u64, n: usize, is_later: bool, matching: bool) -> Asked {
             remote: bytes(&mut random),
         })
         .collect();
-    let mut data = lent(&tlcs, [4; 33], [5; 33]);
+    let mut data = data_of(&tlcs, [4; 33], [5; 33]);
     let Document::Value(state) = settlement::first(h, true, &data, usize::MAX) else {
         unreachable!("at most 254 TLCs");
     };
@@ -189,7 +185,7 @@ fn asked(h: u64, n: usize, is_later: bool, matching: bool) -> Asked {
     let mut args = vec![0; 57];
     let epoch = |number| Epoch { number, index: 0, length: 1 };
     args[20..28].copy_from_slice(&since_of(epoch(3)).to_le_bytes());
-    Asked {
+    Request {
         h,
         for_remote: true,
         args,
@@ -204,12 +200,8 @@ fn asked(h: u64, n: usize, is_later: bool, matching: bool) -> Asked {
     }
 }
 
-/// Prints a table, or that the library lacks the choice.
+/// Prints the table of the choice.
 fn choices() {
-    let Some(choose) = port::CHOOSE else {
-        println!("choice: not measured, the library has no fiber_settlement_choose");
-        return;
-    };
     println!("First and later choice; all TLCs are walked. The Rust's cell and channel data are made in each call, and its");
     println!("keys are public ones: what deriving them from secret keys takes is not measured.");
     println!();
@@ -220,18 +212,18 @@ fn choices() {
             for (n, matching) in
                 [(0, true), (1, true), (1, false), (16, true), (16, false), (254, true), (254, false)]
             {
-                let asked = asked(h, n, is_later, matching);
-                let prepared = calls::Prepared::new(&case(&asked));
-                let mut out = vec![0; asked.output];
-                let mut answer = [0; port::CHOOSE_ANSWER];
-                let (local, remote) = (halves(asked.data.local_amount), halves(asked.data.remote_amount));
+                let request = request(h, n, is_later, matching);
+                let prepared = calls::Prepared::new(&case(&request));
+                let mut out = vec![0; request.output];
+                let mut answer = [0; CHOOSE_ANSWER];
+                let (local, remote) = (halves(request.data.local_amount), halves(request.data.remote_amount));
                 let empty = vec![];
-                let mut chooses = |a: &Asked| {
+                let mut chooses = |a: &Request| {
                     let (witness, data) = (a.witness.as_ref().unwrap_or(&empty), &a.data);
                     let [header, current] = [a.header, a.current];
-                    // SAFETY: all have the lengths said.
+                    // SAFETY: all have the lengths passed.
                     unsafe {
-                        choose(
+                        CHOOSE(
                             a.h,
                             a.for_remote,
                             is_later,
@@ -268,15 +260,15 @@ fn choices() {
                     }
                 };
                 // The same answer first.
-                let (number, what) = match settlement::choice(&asked) {
+                let (number, what) = match settlement::choice(&request) {
                     Document::Value(chosen) if chosen.key.is_none() => (0, "our share".to_string()),
                     Document::Value(chosen) => (0, format!("TLC {}", chosen.unlock[0])),
                     Document::Row(row, _) => (row.number, format!("waits ({})", row.number)),
                 };
-                assert_eq!(chooses(&asked), number);
+                assert_eq!(chooses(&request), number);
                 assert_eq!(prepared.choose(), number == 0);
                 let (ours, theirs) = measured(
-                    || assert_eq!(chooses(black_box(&asked)), number),
+                    || assert_eq!(chooses(black_box(&request)), number),
                     || assert_eq!(black_box(&prepared).choose(), number == 0),
                 );
                 let (settlement, all) =

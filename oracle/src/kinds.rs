@@ -1,5 +1,5 @@
 //! The kinds of cases that can be compared. A new kind implements `Kind` in a file of its own and gets a line in
-//! `TABLE`; its exports are named in port.rs and build.rs.
+//! `TABLE`; its export is declared in port.rs.
 
 use crate::document::{Document, Epoch};
 use crate::port::Called;
@@ -31,9 +31,8 @@ pub trait Kind {
 
     const NAME: &'static str;
     const ABOUT: &'static str;
-    /// The export it calls, and whether the library has it. None where the port does not export it yet: then
-    /// document 01 and the Rust are compared.
-    const EXPORT: Option<(&'static str, bool)> = None;
+    /// The export it calls.
+    const EXPORT: &'static str;
     /// How many lines of the dump are its own.
     const DUMP_LINES: usize;
     /// Does the dump tell document 01's rows outside the equality too? The Rust is not asked there.
@@ -67,10 +66,7 @@ pub trait Kind {
     fn not_shown(_input: &Self::Input) -> bool {
         false
     }
-    /// Called only where there is an export.
-    fn port(_input: &Self::Input, _random: &mut Random) -> Called<Self::Value> {
-        unreachable!("no export yet")
-    }
+    fn port(input: &Self::Input, random: &mut Random) -> Called<Self::Value>;
     /// What else the Rust does that document 01 speaks about and the port does not answer. Asked as `rust` is.
     fn further(_input: &Self::Input) -> Result<(), &'static str> {
         Ok(())
@@ -95,7 +91,7 @@ pub trait Kind {
 pub struct Entry {
     pub name: &'static str,
     pub about: &'static str,
-    pub export: Option<(&'static str, bool)>,
+    pub export: &'static str,
     pub compare: fn(&Options) -> Tally,
     pub one: fn(u64, u64, bool) -> bool,
     pub dump: fn(u64) -> Vec<String>,

@@ -1,6 +1,6 @@
 //! Where document 01 and the Rust part, shown by running the Rust on the smallest input.
 
-use crate::document::settlement::{Asked, Data};
+use crate::document::settlement::{Data, Request};
 use crate::document::{self, settlement, Document, Epoch};
 use crate::port::{self, Reply};
 use crate::random::Random;
@@ -16,14 +16,14 @@ fn fraction(e: Epoch) -> String {
     format!("({}, {}/{})", e.number, e.index, e.length)
 }
 
-fn said<V: Display>(answer: Document<V>) -> String {
+fn by_document<V: Display>(answer: Document<V>) -> String {
     match answer {
         Document::Value(value) => value.to_string(),
         Document::Row(row, place) => format!("{} at {place}: {}", row.number, row.cause),
     }
 }
 
-fn done<V: Display>(answer: Rust<V>) -> String {
+fn by_rust<V: Display>(answer: Rust<V>) -> String {
     match answer {
         Rust::Value(value) => value.to_string(),
         Rust::TurnedDown => "turned down, without a number".to_string(),
@@ -53,14 +53,13 @@ struct Parting {
     input: String,
     document: String,
     rust: String,
-    /// What the port answers, where it is asked here.
+    /// What the port answers, where it is called here.
     port: Option<String>,
     note: &'static str,
 }
 
-/// What the port chooses. None where the library has no choice.
-fn here(case: &Case) -> Option<String> {
-    let call = port::CHOOSE?;
+/// What the port chooses.
+fn by_port(case: &Case) -> String {
     let (mut tlcs, mut tracked) = (vec![], vec![]);
     for tlc in &case.tlcs {
         tlcs.extend([tlc.received, tlc.alg]);
@@ -75,7 +74,7 @@ fn here(case: &Case) -> Option<String> {
         tracked.extend(&one.record);
     }
     let of_fields = |(number, index, length)| epoch(number, index, length);
-    let asked = Asked {
+    let request = Request {
         h: case.h.into(),
         for_remote: case.for_remote,
         args: case.args.clone(),
@@ -94,19 +93,19 @@ fn here(case: &Case) -> Option<String> {
         witness: case.witness.clone(),
         output: 60_000,
     };
-    Some(match port::choose(&mut Random::of(1, "partings", 0), call, &asked) {
+    match port::choose(&mut Random::of(1, "partings", 0), port::CHOOSE, &request) {
         Err(fault) => fault,
         Ok(Reply::Refused { number, place }) => format!("{number} at {place}"),
         Ok(Reply::Value(chosen)) => format!("chosen, unlock byte {:#04x}", chosen.unlock[0]),
-    })
+    }
 }
 
 fn scaled(place: &'static str, e: Epoch, numerator: u64, denominator: u64, note: &'static str) -> Parting {
     Parting {
         place,
         input: format!("{} by {numerator}/{denominator}", fraction(e)),
-        document: said(document::mul(e, numerator, denominator)),
-        rust: done(calls::scale(e, numerator, denominator)),
+        document: by_document(document::mul(e, numerator, denominator)),
+        rust: by_rust(calls::scale(e, numerator, denominator)),
         port: None,
         note,
     }
@@ -116,8 +115,8 @@ fn due(place: &'static str, h: Epoch, d: Epoch, c: Epoch, note: &'static str) ->
     Parting {
         place,
         input: format!("header {}, delay {}, current {}", fraction(h), fraction(d), fraction(c)),
-        document: said(document::is_due(h, d, c)),
-        rust: done(calls::due(h, d, c)),
+        document: by_document(document::is_due(h, d, c)),
+        rust: by_rust(calls::due(h, d, c)),
         port: None,
         note,
     }
@@ -185,7 +184,7 @@ fn updates() -> Vec<Parting> {
     let twice = |n: u8, unlocks: &[u8]| Parting {
         place: "update, a place settled twice",
         input: format!("h = 20, n = {n}, unlocks {unlocks:?}"),
-        document: said_row(settlement::update(20, &witness(n, unlocks), usize::MAX)),
+        document: row_by_document(settlement::update(20, &witness(n, unlocks), usize::MAX)),
         rust: match calls::update(20, &witness(n, unlocks)) {
             Update::State(state) => {
                 format!("says {} TLCs and writes {} records", state[0], (state.len() - 73) / 85)
@@ -239,7 +238,7 @@ fn choices() -> Vec<Parting> {
         input: format!("first settlement, args of {args} bytes, {what}"),
         document: "10 at 0: lock args below 36 bytes".to_string(),
         rust: chosen(&calls::choice(&first_settlement(args, tlcs))),
-        port: here(&first_settlement(args, tlcs)),
+        port: Some(by_port(&first_settlement(args, tlcs))),
         note: "the args are cut at 28 at once, but at 36 only once something is chosen",
     };
     let mut expired = first_settlement(57, 255);
@@ -252,7 +251,7 @@ fn choices() -> Vec<Parting> {
         input: format!("{input}, 255 offered TLCs, of which place 254 alone is expired"),
         document: format!("12 at 0: above 254 {what}"),
         rust: chosen(&calls::choice(case)),
-        port: here(case),
+        port: Some(by_port(case)),
         note: "0xfe is the unlock of the remote share",
     };
     vec![
@@ -274,7 +273,7 @@ fn delays() -> Vec<Parting> {
         input: "args of 57 bytes, epoch value 1: number 1, index 0, length 0; no TLCs".to_string(),
         document: document.to_string(),
         rust: chosen(&calls::choice(case)),
-        port: here(case),
+        port: Some(by_port(case)),
         note: "the text makes an epoch of the value in both; a later settlement does not look at it again",
     };
     vec![
@@ -306,10 +305,10 @@ fn unreadable() -> Vec<Parting> {
                 format!("{taken}: {}", chosen(&choice))
             }
         },
-        port: here(&case(read)),
+        port: Some(by_port(&case(read))),
         note,
     };
-    let refused = || said_row(settlement::read(20, &cut));
+    let refused = || row_by_document(settlement::read(20, &cut));
     vec![
         live(
             "caller, later witness whole",
@@ -339,7 +338,7 @@ fn unreadable() -> Vec<Parting> {
 }
 
 /// Where a row is expected.
-fn said_row<V>(answer: Document<V>) -> String {
+fn row_by_document<V>(answer: Document<V>) -> String {
     match answer {
         Document::Value(_) => "no row".to_string(),
         Document::Row(row, place) => format!("{} at {place}: {}", row.number, row.cause),

@@ -1,46 +1,38 @@
 //! The port, called over C. Every buffer that it may write lies in a larger one full of random bytes, and every
 //! byte that it may not write is checked.
 
-use crate::document::settlement::{Asked, Chosen, Data, Read};
+use crate::document::settlement::{Chosen, Data, Read, Request};
 use crate::document::Epoch;
 use crate::random::Random;
 
-/// Declares an export, and a constant that holds it, or None where the library lacks it.
+/// Declares an export: its type, and a constant that holds it.
 macro_rules! export {
-    ($constant:ident, $kind:ident, $name:literal, fn $symbol:ident($($argument:ty),*) $(-> $result:ty)?) => {
+    ($constant:ident, $kind:ident, fn $symbol:ident($($argument:ty),*) $(-> $result:ty)?) => {
         pub type $kind = unsafe extern "C" fn($($argument),*) $(-> $result)?;
-        #[cfg(port_has = $name)]
-        pub const $constant: Option<$kind> = {
+        pub const $constant: $kind = {
             extern "C" {
                 fn $symbol($(_: $argument),*) $(-> $result)?;
             }
-            Some($symbol)
+            $symbol
         };
-        #[cfg(not(port_has = $name))]
-        pub const $constant: Option<$kind> = None;
     };
 }
 
-// build.rs has the same names, and finds out which the library has.
-export!(MUL, Mul, "fiber_test_mul", fn fiber_test_mul(u64, u64, u64, u64, u64, *mut u8, usize) -> u64);
-export!(IS_DUE, IsDue, "fiber_test_is_due",
-    fn fiber_test_is_due(u64, u64, u64, u64, u64, u64, u64, u64, u64, *mut u8, usize) -> u64);
-export!(ABSOLUTE_EXPIRY, AbsoluteExpiry, "fiber_test_absolute_expiry",
-    fn fiber_test_absolute_expiry(u64, *mut u8, usize) -> u64);
-export!(KEY_HASH, KeyHash, "fiber_test_key_hash",
-    fn fiber_test_key_hash(*const u8, usize, *mut u8, usize) -> u64);
-export!(CKB_HASH, CkbHash, "fiber_test_ckb_hash", fn fiber_test_ckb_hash(*const u8, usize, *mut u8));
-export!(SHA256, Sha256, "fiber_test_sha256", fn fiber_test_sha256(*const u8, usize, *mut u8));
-export!(READ, SettlementRead, "fiber_settlement_read",
-    fn fiber_settlement_read(u64, *const u8, usize, *mut u8, usize) -> u64);
-export!(UPDATE, SettlementUpdate, "fiber_settlement_update",
+export!(MUL, Mul, fn fiber_test_mul(u64, u64, u64, u64, u64, *mut u8, usize) -> u64);
+export!(IS_DUE, IsDue, fn fiber_test_is_due(u64, u64, u64, u64, u64, u64, u64, u64, u64, *mut u8, usize) -> u64);
+export!(ABSOLUTE_EXPIRY, AbsoluteExpiry, fn fiber_test_absolute_expiry(u64, *mut u8, usize) -> u64);
+export!(KEY_HASH, KeyHash, fn fiber_test_key_hash(*const u8, usize, *mut u8, usize) -> u64);
+export!(CKB_HASH, CkbHash, fn fiber_test_ckb_hash(*const u8, usize, *mut u8));
+export!(SHA256, Sha256, fn fiber_test_sha256(*const u8, usize, *mut u8));
+export!(READ, SettlementRead, fn fiber_settlement_read(u64, *const u8, usize, *mut u8, usize) -> u64);
+export!(UPDATE, SettlementUpdate,
     fn fiber_settlement_update(u64, *const u8, usize, *mut u8, usize, *mut u8, usize) -> u64);
-export!(TLC_WITNESS, TlcWitness, "fiber_test_tlc_witness",
+export!(TLC_WITNESS, TlcWitness,
     fn fiber_test_tlc_witness(u64, bool, *const u8, usize, *mut u8, usize, *mut u8, usize) -> u64);
-export!(DATA_WITNESS, DataWitness, "fiber_test_data_witness",
+export!(DATA_WITNESS, DataWitness,
     fn fiber_test_data_witness(u64, bool, u64, u64, u64, u64, *const u8, usize, *const u8, usize, *const u8, usize,
         *mut u8, usize, *mut u8, usize) -> u64);
-export!(CHOOSE, SettlementChoose, "fiber_settlement_choose",
+export!(CHOOSE, SettlementChoose,
     fn fiber_settlement_choose(u64, bool, bool, u64, u64, u64, u64, u64, u64, u64, u64, u64, u64, u64,
         *const u8, usize, *const u8, usize, *const u8, usize, *const u8, usize, *const u8, usize, *const u8, usize,
         *const u8, usize, *mut u8, usize, *mut u8, usize) -> u64);
@@ -59,29 +51,29 @@ fn u64_at(bytes: &[u8], at: usize) -> u64 {
     u64::from_le_bytes(bytes[at..at + 8].try_into().expect("8 bytes"))
 }
 
-/// Memory to lend: some bytes at any alignment, amid random ones.
-pub struct Lent {
+/// Memory that a call is handed: some bytes at any alignment, amid random ones.
+pub struct Buffer {
     before: Vec<u8>,
     bytes: Vec<u8>,
     from: usize,
     length: usize,
 }
 
-impl Lent {
+impl Buffer {
     /// A buffer to write, full of random bytes.
-    pub fn new(random: &mut Random, length: usize) -> Lent {
+    pub fn new(random: &mut Random, length: usize) -> Buffer {
         let from = 8 + random.below(16) as usize;
         let mut bytes = vec![0; from + length + 24];
         random.fill(&mut bytes);
-        Lent { before: bytes.clone(), bytes, from, length }
+        Buffer { before: bytes.clone(), bytes, from, length }
     }
 
     /// Bytes to read.
-    pub fn holding(random: &mut Random, text: &[u8]) -> Lent {
-        let mut lent = Lent::new(random, text.len());
-        lent.bytes[lent.from..lent.from + text.len()].copy_from_slice(text);
-        lent.before.clone_from(&lent.bytes);
-        lent
+    pub fn holding(random: &mut Random, text: &[u8]) -> Buffer {
+        let mut buffer = Buffer::new(random, text.len());
+        buffer.bytes[buffer.from..buffer.from + text.len()].copy_from_slice(text);
+        buffer.before.clone_from(&buffer.bytes);
+        buffer
     }
 
     pub fn reading(&self) -> *const u8 {
@@ -148,18 +140,18 @@ pub fn answered<V>(
     value: impl Fn(&[u8]) -> Result<V, String>,
 ) -> Called<V> {
     for length in shorter(random, size) {
-        let mut short = Lent::new(random, length);
+        let mut short = Buffer::new(random, length);
         let number = call(short.pointer(), length);
         short.only(0)?;
         has_to_be_14(number, length)?;
     }
     let length = enough(random, size);
-    let mut lent = Lent::new(random, length);
-    let number = call(lent.pointer(), length);
-    lent.only(if number == 0 { size } else { 16 })?;
-    let (told, place) = (u64_at(lent.written(16), 0), u64_at(lent.written(16), 8));
-    if told != number {
-        return Err(format!("the return value is {number}, the number in the buffer {told}"));
+    let mut fields = Buffer::new(random, length);
+    let number = call(fields.pointer(), length);
+    fields.only(if number == 0 { size } else { 16 })?;
+    let (in_buffer, place) = (u64_at(fields.written(16), 0), u64_at(fields.written(16), 8));
+    if in_buffer != number {
+        return Err(format!("the return value is {number}, the number in the buffer {in_buffer}"));
     }
     if number != 0 {
         return Ok(Reply::Refused { number, place });
@@ -167,27 +159,27 @@ pub fn answered<V>(
     if place != 0 {
         return Err(format!("success with place {place}"));
     }
-    value(lent.written(size)).map(Reply::Value)
+    value(fields.written(size)).map(Reply::Value)
 }
 
-pub fn mul(random: &mut Random, call: Mul, delay: Epoch, numerator: u64, denominator: u64) -> Called<Epoch> {
+pub fn mul(random: &mut Random, delay: Epoch, numerator: u64, denominator: u64) -> Called<Epoch> {
     let Epoch { number, index, length } = delay;
     answered(
         random,
         40,
-        // SAFETY: the buffer has the length said.
-        |answer, size| unsafe { call(number, index, length, numerator, denominator, answer, size) },
+        // SAFETY: the buffer has the length passed.
+        |answer, size| unsafe { MUL(number, index, length, numerator, denominator, answer, size) },
         |bytes| Ok(Epoch { number: u64_at(bytes, 16), index: u64_at(bytes, 24), length: u64_at(bytes, 32) }),
     )
 }
 
-pub fn is_due(random: &mut Random, call: IsDue, h: Epoch, d: Epoch, c: Epoch) -> Called<bool> {
+pub fn is_due(random: &mut Random, h: Epoch, d: Epoch, c: Epoch) -> Called<bool> {
     answered(
         random,
         24,
-        // SAFETY: the buffer has the length said.
+        // SAFETY: the buffer has the length passed.
         |answer, size| unsafe {
-            call(
+            IS_DUE(
                 h.number, h.index, h.length, d.number, d.index, d.length, c.number, c.index, c.length,
                 answer, size,
             )
@@ -196,12 +188,12 @@ pub fn is_due(random: &mut Random, call: IsDue, h: Epoch, d: Epoch, c: Epoch) ->
     )
 }
 
-pub fn absolute_expiry(random: &mut Random, call: AbsoluteExpiry, since: u64) -> Called<Option<u64>> {
+pub fn absolute_expiry(random: &mut Random, since: u64) -> Called<Option<u64>> {
     answered(
         random,
         32,
-        // SAFETY: the buffer has the length said.
-        |answer, size| unsafe { call(since, answer, size) },
+        // SAFETY: the buffer has the length passed.
+        |answer, size| unsafe { ABSOLUTE_EXPIRY(since, answer, size) },
         |bytes| match (truth(u64_at(bytes, 16))?, u64_at(bytes, 24)) {
             (true, expiry) => Ok(Some(expiry)),
             (false, 0) => Ok(None),
@@ -210,24 +202,24 @@ pub fn absolute_expiry(random: &mut Random, call: AbsoluteExpiry, since: u64) ->
     )
 }
 
-pub fn key_hash(random: &mut Random, call: KeyHash, key: &[u8]) -> Called<[u8; 20]> {
-    let lent = Lent::holding(random, key);
+pub fn key_hash(random: &mut Random, key: &[u8]) -> Called<[u8; 20]> {
+    let text = Buffer::holding(random, key);
     let called = answered(
         random,
         36,
-        // SAFETY: key and buffer have the lengths said.
-        |answer, size| unsafe { call(lent.reading(), key.len(), answer, size) },
+        // SAFETY: key and buffer have the lengths passed.
+        |answer, size| unsafe { KEY_HASH(text.reading(), key.len(), answer, size) },
         |bytes| Ok(bytes[16..36].try_into().expect("20 bytes")),
     );
-    lent.only(0)?;
+    text.only(0)?;
     called
 }
 
 /// `fiber_test_ckb_hash` or `fiber_test_sha256`.
 pub fn hash(random: &mut Random, call: CkbHash, message: &[u8]) -> Called<[u8; 32]> {
-    let text = Lent::holding(random, message);
-    let mut digest = Lent::new(random, 32);
-    // SAFETY: the message has the length said, the digest 32 bytes.
+    let text = Buffer::holding(random, message);
+    let mut digest = Buffer::new(random, 32);
+    // SAFETY: the message has the length passed, the digest 32 bytes.
     unsafe { call(text.reading(), message.len(), digest.pointer()) };
     text.only(0)?;
     digest.only(32)?;
@@ -238,65 +230,57 @@ pub const READ_ANSWER: usize = 48;
 pub const UPDATE_ANSWER: usize = 24;
 pub const CHOOSE_ANSWER: usize = 144;
 
-pub fn read(random: &mut Random, call: SettlementRead, h: u64, witness: &[u8]) -> Called<Read> {
-    let lent = Lent::holding(random, witness);
+pub fn read(random: &mut Random, h: u64, witness: &[u8]) -> Called<Read> {
+    let text = Buffer::holding(random, witness);
     let called = answered(
         random,
         READ_ANSWER,
-        // SAFETY: witness and buffer have the lengths said.
-        |answer, size| unsafe { call(h, lent.reading(), witness.len(), answer, size) },
+        // SAFETY: witness and buffer have the lengths passed.
+        |answer, size| unsafe { READ(h, text.reading(), witness.len(), answer, size) },
         |bytes| {
             let field = |at| u64_at(bytes, at) as usize;
             Ok(Read { n: field(16), unlocks: field(24), shares: field(32), first: field(40) })
         },
     );
-    lent.only(0)?;
+    text.only(0)?;
     called
 }
 
 /// The state left. `output` is the length of the output buffer.
-pub fn update(
-    random: &mut Random,
-    call: SettlementUpdate,
-    h: u64,
-    witness: &[u8],
-    output: usize,
-) -> Called<Vec<u8>> {
+pub fn update(random: &mut Random, h: u64, witness: &[u8], output: usize) -> Called<Vec<u8>> {
     for length in shorter(random, UPDATE_ANSWER) {
-        one_update(random, call, h, witness, output, length)?;
+        one_update(random, h, witness, output, length)?;
     }
     let length = enough(random, UPDATE_ANSWER);
-    let reply = one_update(random, call, h, witness, output, length)?;
+    let reply = one_update(random, h, witness, output, length)?;
     Ok(reply.expect("the buffer is long enough"))
 }
 
 /// One call of the update with an answer buffer of this length. None: 14 by the return value alone.
 pub fn one_update(
     random: &mut Random,
-    call: SettlementUpdate,
     h: u64,
     witness: &[u8],
     output: usize,
     answer: usize,
 ) -> Result<Option<Reply<Vec<u8>>>, String> {
-    written(random, [witness], output, answer, |[lent], out, out_len, said, said_len| {
-        // SAFETY: witness, output and buffer have the lengths said.
-        unsafe { call(h, lent.0, lent.1, out, out_len, said, said_len) }
+    written(random, [witness], output, answer, |[witness], out, out_len, answer, answer_len| {
+        // SAFETY: witness, output and buffer have the lengths passed.
+        unsafe { UPDATE(h, witness.0, witness.1, out, out_len, answer, answer_len) }
     })
 }
 
 /// The record of one settlement TLC.
 pub fn tlc_witness(
     random: &mut Random,
-    call: TlcWitness,
     h: u64,
     for_remote: bool,
     tlc: &[u8],
     output: usize,
 ) -> Called<Vec<u8>> {
-    written_at_times_short(random, [tlc], output, |[tlc], out, out_len, said, said_len| {
-        // SAFETY: TLC, output and buffer have the lengths said.
-        unsafe { call(h, for_remote, tlc.0, tlc.1, out, out_len, said, said_len) }
+    written_at_times_short(random, [tlc], output, |[tlc], out, out_len, answer, answer_len| {
+        // SAFETY: TLC, output and buffer have the lengths passed.
+        unsafe { TLC_WITNESS(h, for_remote, tlc.0, tlc.1, out, out_len, answer, answer_len) }
     })
 }
 
@@ -308,7 +292,6 @@ pub fn halves(amount: u128) -> (u64, u64) {
 /// The first state.
 pub fn data_witness(
     random: &mut Random,
-    call: DataWitness,
     h: u64,
     for_remote: bool,
     data: &Data,
@@ -316,12 +299,12 @@ pub fn data_witness(
 ) -> Called<Vec<u8>> {
     let (local, remote) = (halves(data.local_amount), halves(data.remote_amount));
     let lists = [&data.tlcs[..], &data.local_key, &data.remote_key];
-    written_at_times_short(random, lists, output, |[tlcs, ours, theirs], out, out_len, said, said_len| {
-        // SAFETY: list, keys, output and buffer have the lengths said.
+    written_at_times_short(random, lists, output, |[tlcs, ours, theirs], out, out_len, answer, answer_len| {
+        // SAFETY: list, keys, output and buffer have the lengths passed.
         unsafe {
-            call(
+            DATA_WITNESS(
                 h, for_remote, local.0, local.1, remote.0, remote.1, tlcs.0, tlcs.1, ours.0, ours.1,
-                theirs.0, theirs.1, out, out_len, said, said_len,
+                theirs.0, theirs.1, out, out_len, answer, answer_len,
             )
         }
     })
@@ -358,11 +341,11 @@ fn written<const N: usize>(
     let Some((reply, out)) = done else {
         return Ok(None);
     };
-    let said = match reply {
+    let fields = match reply {
         Reply::Refused { number, place } => return Ok(Some(Reply::Refused { number, place })),
-        Reply::Value(said) => said,
+        Reply::Value(fields) => fields,
     };
-    let length = u64_at(&said, 16);
+    let length = u64_at(&fields, 16);
     if length > output as u64 {
         return Err(format!("success with {length} bytes written in {output}"));
     }
@@ -379,22 +362,22 @@ fn called<const N: usize>(
     answer: usize,
     size: usize,
     call: impl Fn([Given; N], *mut u8, usize, *mut u8, usize) -> u64,
-) -> Result<Option<(Reply<Vec<u8>>, Lent)>, String> {
-    let lent = lists.map(|list| Lent::holding(random, list));
-    let mut out = Lent::new(random, output);
-    let mut said = Lent::new(random, answer);
-    let given = std::array::from_fn(|i| (lent[i].reading(), lists[i].len()));
-    let number = call(given, out.pointer(), output, said.pointer(), answer);
-    lent.iter().try_for_each(|list| list.only(0))?;
+) -> Result<Option<(Reply<Vec<u8>>, Buffer)>, String> {
+    let texts = lists.map(|list| Buffer::holding(random, list));
+    let mut out = Buffer::new(random, output);
+    let mut fields = Buffer::new(random, answer);
+    let given = std::array::from_fn(|i| (texts[i].reading(), lists[i].len()));
+    let number = call(given, out.pointer(), output, fields.pointer(), answer);
+    texts.iter().try_for_each(|text| text.only(0))?;
     if answer < size {
         out.only(0)?;
-        said.only(0)?;
+        fields.only(0)?;
         return has_to_be_14(number, answer).map(|()| None);
     }
-    said.only(if number == 0 { size } else { 16 })?;
-    let (told, place) = (u64_at(said.written(size), 0), u64_at(said.written(size), 8));
-    if told != number {
-        return Err(format!("the return value is {number}, the number in the buffer {told}"));
+    fields.only(if number == 0 { size } else { 16 })?;
+    let (in_buffer, place) = (u64_at(fields.written(size), 0), u64_at(fields.written(size), 8));
+    if in_buffer != number {
+        return Err(format!("the return value is {number}, the number in the buffer {in_buffer}"));
     }
     if number != 0 {
         out.only(0)?;
@@ -403,16 +386,16 @@ fn called<const N: usize>(
     if place != 0 {
         return Err(format!("success with place {place}"));
     }
-    Ok(Some((Reply::Value(said.written(size).to_vec()), out)))
+    Ok(Some((Reply::Value(fields.written(size).to_vec()), out)))
 }
 
 /// The choice.
-pub fn choose(random: &mut Random, call: SettlementChoose, asked: &Asked) -> Called<Chosen> {
+pub fn choose(random: &mut Random, call: SettlementChoose, request: &Request) -> Called<Chosen> {
     for length in shorter(random, CHOOSE_ANSWER) {
-        one_choice(random, call, asked, length)?;
+        one_choice(random, call, request, length)?;
     }
     let length = enough(random, CHOOSE_ANSWER);
-    let reply = one_choice(random, call, asked, length)?;
+    let reply = one_choice(random, call, request, length)?;
     Ok(reply.expect("the buffer is long enough"))
 }
 
@@ -420,29 +403,34 @@ pub fn choose(random: &mut Random, call: SettlementChoose, asked: &Asked) -> Cal
 fn one_choice(
     random: &mut Random,
     call: SettlementChoose,
-    asked: &Asked,
+    request: &Request,
     answer: usize,
 ) -> Result<Option<Reply<Chosen>>, String> {
-    let Asked { h, for_remote, time, header, current, data, .. } = asked;
+    let Request { h, for_remote, time, header, current, data, .. } = request;
     let (local, remote) = (halves(data.local_amount), halves(data.remote_amount));
     // In a first settlement a witness is not looked at, whatever is lent.
     let mut any = vec![0; random.pick(&[0, 0, 1, 2, 74, 200])];
     random.fill(&mut any);
-    let is_later = asked.witness.is_some();
-    let witness = asked.witness.as_ref().unwrap_or(&any);
+    let is_later = request.witness.is_some();
+    let witness = request.witness.as_ref().unwrap_or(&any);
     let lists = [
-        &asked.args[..],
+        &request.args[..],
         &data.tlcs,
         &data.local_key,
         &data.remote_key,
-        &asked.tracked,
-        &asked.preimages,
+        &request.tracked,
+        &request.preimages,
         witness,
     ];
-    let done =
-        called(random, lists, asked.output, answer, CHOOSE_ANSWER, |given, out, out_len, said, said_len| {
+    let done = called(
+        random,
+        lists,
+        request.output,
+        answer,
+        CHOOSE_ANSWER,
+        |given, out, out_len, answer, answer_len| {
             let [args, tlcs, ours, theirs, tracked, preimages, witness] = given;
-            // SAFETY: all lists, output and buffer have the lengths said.
+            // SAFETY: all lists, output and buffer have the lengths passed.
             unsafe {
                 call(
                     *h,
@@ -475,25 +463,26 @@ fn one_choice(
                     witness.1,
                     out,
                     out_len,
-                    said,
-                    said_len,
+                    answer,
+                    answer_len,
                 )
             }
-        })?;
+        },
+    )?;
     match done {
         None => Ok(None),
         Some((Reply::Refused { number, place }, _)) => Ok(Some(Reply::Refused { number, place })),
-        Some((Reply::Value(said), out)) => {
-            let slice = if is_later { witness } else { &asked.tracked };
-            chosen(asked, slice, &said, &out).map(|chosen| Some(Reply::Value(chosen)))
+        Some((Reply::Value(fields), out)) => {
+            let slice = if is_later { witness } else { &request.tracked };
+            chosen(request, slice, &fields, &out).map(|chosen| Some(Reply::Value(chosen)))
         }
     }
 }
 
 /// The choice's answer of 144 bytes and its output, whose fields have to fit each other. `slice` is what the record is
 /// a part of.
-fn chosen(asked: &Asked, slice: &[u8], said: &[u8], out: &Lent) -> Result<Chosen, String> {
-    let field = |at| u64_at(said, at);
+fn chosen(request: &Request, slice: &[u8], answer: &[u8], out: &Buffer) -> Result<Chosen, String> {
+    let field = |at| u64_at(answer, at);
     let holds = |holds: bool, what: &str| match holds {
         true => Ok(()),
         false => {
@@ -503,7 +492,7 @@ fn chosen(asked: &Asked, slice: &[u8], said: &[u8], out: &Lent) -> Result<Chosen
     };
     let lengths = [field(112), field(120), field(128)];
     let all = lengths.iter().try_fold(0u64, |sum, length| sum.checked_add(*length));
-    let all = all.filter(|all| *all <= asked.output as u64);
+    let all = all.filter(|all| *all <= request.output as u64);
     holds(all.is_some(), "the parts of the output are longer than it")?;
     let all = all.map_or(0, |all| all as usize);
     out.only(all)?;
@@ -530,7 +519,7 @@ fn chosen(asked: &Asked, slice: &[u8], said: &[u8], out: &Lent) -> Result<Chosen
     if kind == 0 {
         holds(record == (0, 0), "a record beside a share")?;
     } else {
-        let size = 65 + asked.h as usize;
+        let size = 65 + request.h as usize;
         let end = record.0.checked_add(record.1).filter(|end| *end <= slice.len() as u64);
         holds(end.is_some(), "the record is beyond its slice")?;
         let part = &slice[record.0 as usize..(record.0 + record.1) as usize];

@@ -129,14 +129,11 @@ struct Answers<V> {
 
 fn answers<K: Kind>(input: &K::Input, seed: u64, case: u64, port: bool) -> Answers<K::Value> {
     let document = K::document(input);
-    let asked = document.inside() && !K::not_shown(input);
+    let with_rust = document.inside() && !K::not_shown(input);
     Answers {
-        rust: asked.then(|| calls::caught(|| K::rust(input))),
-        port: match K::EXPORT {
-            Some((export, _)) if port => Some(K::port(input, &mut Random::of(seed, export, case))),
-            _ => None,
-        },
-        further: match asked {
+        rust: with_rust.then(|| calls::caught(|| K::rust(input))),
+        port: port.then(|| K::port(input, &mut Random::of(seed, K::EXPORT, case))),
+        further: match with_rust {
             true => calls::caught_or(Err("the Rust panics"), || K::further(input)),
             false => Ok(()),
         },
@@ -212,13 +209,13 @@ impl<V: PartialEq> Answers<V> {
             Some(Ok(Reply::Value(value))) => K::show_value(value),
             Some(Ok(Reply::Refused { number, place })) => format!("refused {number} at {place}"),
         };
-        let lent = match K::dump_output(input) {
+        let output = match K::dump_output(input) {
             0 => String::new(),
             length => format!(", output buffer of {length} bytes"),
         };
         let input = K::show_input(input);
         format!(
-            "  input:       {input}{lent}\n  document 01: {document}\n  the Rust:    {rust}\n  the port:    {port}"
+            "  input:       {input}{output}\n  document 01: {document}\n  the Rust:    {rust}\n  the port:    {port}"
         )
     }
 }
@@ -245,7 +242,7 @@ pub fn compare<K: Kind>(options: &Options) -> Tally {
     let start = Instant::now();
     let mut tally = Tally {
         kind: K::NAME,
-        port: options.port && K::EXPORT.is_some(),
+        port: options.port,
         rounds: 0,
         values: BTreeMap::new(),
         rows: BTreeMap::new(),
@@ -312,8 +309,8 @@ pub fn dump<K: Kind>(seed: u64) -> Vec<String> {
         .filter_map(|input| {
             let document = K::document(&input);
             let class = class::<K>(&input, &document);
-            let asked = document.inside() && !K::not_shown(&input);
-            let rust = asked.then(|| calls::caught(|| K::rust(&input)));
+            let with_rust = document.inside() && !K::not_shown(&input);
+            let rust = with_rust.then(|| calls::caught(|| K::rust(&input)));
             let answer = match (rust, document) {
                 (Some(Rust::Value(value)), _) => format!("{} {}", K::DUMP_FRONT, K::show_value(&value)),
                 // The status, and of the answer buffer number and place.

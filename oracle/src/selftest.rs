@@ -1,7 +1,7 @@
 //! Checks of the oracle itself: published vectors, one implementation against another, document 01's marked rows on
 //! the sliced text. Panics at the first that fails.
 
-use crate::document::settlement::{self, Asked, Data};
+use crate::document::settlement::{self, Data, Request};
 use crate::document::{self, Document, Epoch};
 use crate::kinds::settlement::consistent;
 use crate::kinds::{chain, TABLE};
@@ -36,8 +36,8 @@ pub fn run() {
     not_modelled();
     document_in_big_numbers();
     generator();
-    lent_buffers();
-    lent_choice();
+    answer_buffers();
+    calls_of_choice();
     update_example();
     choice_example();
     order_of_rows();
@@ -188,15 +188,15 @@ fn generator() {
 }
 
 /// What a callee may do with an answer buffer, and what has to be noticed.
-fn lent_buffers() {
+fn answer_buffers() {
     const SIZE: usize = 24;
-    // Writes `number` and `place`, then `more` bytes behind them, then the byte at `stray`; returns `told`.
-    let callee = |number: u64, place: u64, more: usize, stray: Option<isize>, told: u64, minds: bool| {
+    // Writes `number` and `place`, then `more` bytes behind them, then the byte at `stray`; returns `returned`.
+    let callee = |number: u64, place: u64, more: usize, stray: Option<isize>, returned: u64, minds: bool| {
         move |answer: *mut u8, size: usize| {
             if minds && size < SIZE {
                 return 14;
             }
-            // SAFETY: `Lent` keeps at least 8 bytes before and 24 behind each buffer, and its bytes are 0 to 255.
+            // SAFETY: `Buffer` keeps at least 8 bytes before and 24 behind each buffer, and its bytes are 0 to 255.
             unsafe {
                 let front = [number.to_le_bytes(), place.to_le_bytes()].concat();
                 answer.copy_from(front.as_ptr(), 16);
@@ -208,11 +208,11 @@ fn lent_buffers() {
                     *byte = !*byte;
                 }
             }
-            told
+            returned
         }
     };
     let runs = |callee: &dyn Fn(*mut u8, usize) -> u64| {
-        let mut random = Random::of(1, "lent buffers", 0);
+        let mut random = Random::of(1, "answer buffers", 0);
         (0..64).all(|_| port::answered(&mut random, SIZE, callee, |_| Ok(())).is_ok())
     };
     assert!(runs(&callee(0, 0, 8, None, 0, true)), "a success that keeps to its bytes");
@@ -228,7 +228,7 @@ fn lent_buffers() {
     ] {
         assert!(!runs(&callee), "not noticed: {what}");
     }
-    println!("lent buffers: seven faults of a callee are noticed");
+    println!("answer buffers: seven faults of a callee are noticed");
 }
 
 thread_local!(static FAULT: Cell<&'static str> = const { Cell::new("none") });
@@ -237,7 +237,7 @@ thread_local!(static FAULT: Cell<&'static str> = const { Cell::new("none") });
 ///
 /// # Safety
 ///
-/// All pointers have to be those of `port::Lent` and the lengths theirs.
+/// All pointers have to be those of `port::Buffer` and the lengths theirs.
 #[allow(clippy::too_many_arguments)]
 unsafe extern "C" fn choice_over_c(
     h: u64,
@@ -279,7 +279,7 @@ unsafe extern "C" fn choice_over_c(
     }
     let bytes = |from: *const u8, length: usize| from_raw_parts(from, length).to_vec();
     let amount = |low: u64, high: u64| u128::from(high) << 64 | u128::from(low);
-    let chosen = settlement::choice(&Asked {
+    let chosen = settlement::choice(&Request {
         h,
         for_remote,
         args: bytes(args, args_len),
@@ -346,7 +346,7 @@ unsafe extern "C" fn choice_over_c(
 }
 
 /// What is looked at in a call of the choice.
-fn lent_choice() {
+fn calls_of_choice() {
     const FAULTS: &[&str] = &[
         "a short answer buffer is not looked at",
         "a success with a place",
@@ -368,10 +368,10 @@ fn lent_choice() {
         "another place",
     ];
     let agrees = |case: u64| {
-        let mut random = Random::of(1, "lent choice", case);
-        let mut asked = consistent(&mut random);
-        asked.output = 1000;
-        match (port::choose(&mut random, choice_over_c, &asked), settlement::choice(&asked)) {
+        let mut random = Random::of(1, "calls of the choice", case);
+        let mut request = consistent(&mut random);
+        request.output = 1000;
+        match (port::choose(&mut random, choice_over_c, &request), settlement::choice(&request)) {
             (Ok(Reply::Value(port)), Document::Value(document)) => port == document,
             (Ok(Reply::Refused { number, place }), Document::Row(row, at)) => {
                 (number, place) == (row.number, at)
@@ -446,7 +446,7 @@ fn order_of_rows() {
     let state = [vec![1], vec![0; 85], vec![7; 36], hash.clone(), vec![0; 16]].concat();
     let [faulty, cut] = [[0x80; 67], [0; 67]].map(|unlock| unlock.to_vec());
     let [whole, other] = [vec![0; 33 + 85], vec![1; 33 + 85]];
-    let mut asked = Asked {
+    let mut request = Request {
         h: 21,
         for_remote: true,
         args: vec![0; 35],
@@ -465,43 +465,43 @@ fn order_of_rows() {
         witness: Some([&[0], &state[..], &faulty, &cut[1..]].concat()),
         output: 0,
     };
-    let expect = |asked: &Asked, number: u64, place: u64| match settlement::choice(asked) {
+    let expect = |request: &Request, number: u64, place: u64| match settlement::choice(request) {
         Document::Row(row, at) => assert_eq!((row.number, at), (number, place), "{}", row.cause),
         Document::Value(_) => panic!("chosen, where {number} was expected"),
     };
-    expect(&asked, 14, 0);
-    asked.h = 20;
-    expect(&asked, 10, 0);
-    asked.args = vec![0; 57];
-    expect(&asked, 11, 0);
-    asked.args[27] = 0xbf;
-    expect(&asked, 4, 1 + 158 + 67);
-    asked.witness = Some([&[0], &state[..], &faulty].concat());
-    expect(&asked, 5, 1 + 158);
-    asked.witness = Some([&[0], &state[..], &cut, &cut].concat());
-    expect(&asked, 6, 1 + 158 + 67);
+    expect(&request, 14, 0);
+    request.h = 20;
+    expect(&request, 10, 0);
+    request.args = vec![0; 57];
+    expect(&request, 11, 0);
+    request.args[27] = 0xbf;
+    expect(&request, 4, 1 + 158 + 67);
+    request.witness = Some([&[0], &state[..], &faulty].concat());
+    expect(&request, 5, 1 + 158);
+    request.witness = Some([&[0], &state[..], &cut, &cut].concat());
+    expect(&request, 6, 1 + 158 + 67);
     // Epoch lengths of 0 are not looked at in a later settlement.
-    asked.witness = Some([&[0], &state[..]].concat());
-    expect(&asked, 20, 0);
-    asked.tracked = whole;
-    expect(&asked, 21, 0);
-    asked.data.local_key = key.to_vec();
-    expect(&asked, 22, 0);
-    asked.tracked = vec![];
-    asked.witness = Some([&[0], &state[..], &cut].concat());
-    expect(&asked, 13, 67 + 73 + 57);
-    asked.output = 67 + 73 + 57;
-    assert!(matches!(settlement::choice(&asked), Document::Value(_)));
+    request.witness = Some([&[0], &state[..]].concat());
+    expect(&request, 20, 0);
+    request.tracked = whole;
+    expect(&request, 21, 0);
+    request.data.local_key = key.to_vec();
+    expect(&request, 22, 0);
+    request.tracked = vec![];
+    request.witness = Some([&[0], &state[..], &cut].concat());
+    expect(&request, 13, 67 + 73 + 57);
+    request.output = 67 + 73 + 57;
+    assert!(matches!(settlement::choice(&request), Document::Value(_)));
     // A first settlement: 7 before 12 before 20.
-    asked.witness = None;
-    asked.tracked = vec![1; 118];
-    asked.data.tlcs = vec![0; 255 * 124];
-    expect(&asked, 7, 0);
-    asked.args[25] = 1;
-    (asked.header, asked.current) = (epoch(0, 0, 1), epoch(0, 0, 1));
-    expect(&asked, 12, 0);
-    asked.data.tlcs.truncate(254 * 124);
-    expect(&asked, 20, 0);
+    request.witness = None;
+    request.tracked = vec![1; 118];
+    request.data.tlcs = vec![0; 255 * 124];
+    expect(&request, 7, 0);
+    request.args[25] = 1;
+    (request.header, request.current) = (epoch(0, 0, 1), epoch(0, 0, 1));
+    expect(&request, 12, 0);
+    request.data.tlcs.truncate(254 * 124);
+    expect(&request, 20, 0);
     println!("choice: document 01's order of rows");
 }
 
@@ -528,11 +528,11 @@ fn reached() {
     println!("read, update, first, choice: every row and every kind of choice is reached");
 }
 
-/// Runs of updates say everything that an update can say of a kept state, and notice faults.
+/// Runs of updates reach every answer that an update has for a kept state, and notice faults.
 fn runs_of_updates() {
-    let said = chain::said(2000);
+    let answers = chain::answers(2000);
     for one in ["0", "4", "5", "6", "13", "14", "14 alone"] {
-        assert!(said.contains(one), "chain: `{one}` is not reached");
+        assert!(answers.contains(one), "chain: `{one}` is not reached");
     }
     let unnoticed = chain::unnoticed();
     assert!(unnoticed.is_empty(), "chain: not noticed: {}", unnoticed.join(", "));

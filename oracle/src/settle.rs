@@ -248,21 +248,21 @@ fn run(program: &Program, case: &Case) -> Result<Ran, String> {
     let deadline = Instant::now() + LIMIT;
     thread::scope(|scope| {
         let writer = scope.spawn(|| feed(input, case));
-        let (tell, told) = mpsc::channel();
+        let (sender, receiver) = mpsc::channel();
         for (which, pipe) in outputs.into_iter().enumerate() {
-            let tell = tell.clone();
+            let sender = sender.clone();
             scope.spawn(move || {
                 let mut bytes = vec![];
                 let read = pipe.take(1 << 20).read_to_end(&mut bytes);
                 // Nobody listens any more where the time was up.
-                let _ = tell.send((which, read.map(|_| bytes)));
+                let _ = sender.send((which, read.map(|_| bytes)));
             });
         }
         let mut all = [vec![], vec![]];
         let mut outcome = Ok(());
         for _ in 0..2 {
             let left = deadline.saturating_duration_since(Instant::now());
-            match told.recv_timeout(left) {
+            match receiver.recv_timeout(left) {
                 Ok((which, Ok(bytes))) => all[which] = bytes,
                 Ok((_, Err(e))) => outcome = Err(e.to_string()),
                 Err(_) => outcome = Err(format!("it did not end within {} seconds", LIMIT.as_secs())),
@@ -293,12 +293,12 @@ fn faults(case: &Case, ran: &Result<Ran, String>) -> Vec<String> {
         Ok(ran) => ran,
         Err(fault) => return vec![fault.clone()],
     };
-    let (answer, asked) = document(&case.input, MOST);
+    let (answer, with_rust) = document(&case.input, MOST);
     let mut faults = vec![];
     if ran.out != text(h_of(&case.input), &answer).into_bytes() {
         faults.push("standard output parts from document 01".to_string());
     }
-    if asked {
+    if with_rust {
         let as_rust = match rust(&case.input) {
             calls::Update::State(state) => ran.out == lines(case.input[0], &state).into_bytes(),
             calls::Update::Unread | calls::Update::Refused => ran.out.starts_with(b"refused "),
@@ -328,12 +328,12 @@ fn shown(bytes: &[u8]) -> String {
 }
 
 fn show(case: &Case, ran: &Result<Ran, String>) -> String {
-    let (answer, asked) = document(&case.input, MOST);
+    let (answer, with_rust) = document(&case.input, MOST);
     let bytes = &case.input;
     let mut all =
         format!("  input, {} bytes, written up to {:?}: {}\n", bytes.len(), case.pieces, hex::encode(bytes));
     all += &format!("  document 01:\n{}", shown(text(h_of(bytes), &answer).as_bytes()));
-    all += &match asked.then(|| rust(bytes)) {
+    all += &match with_rust.then(|| rust(bytes)) {
         None => "  the Rust: not asked, outside the equality\n".to_string(),
         Some(calls::Update::State(state)) => {
             format!("  the Rust:\n{}", shown(lines(bytes[0], &state).as_bytes()))
@@ -361,18 +361,18 @@ pub struct Tally {
     states: BTreeMap<&'static str, u64>,
     /// Refusals by number.
     rows: BTreeMap<u64, u64>,
-    /// The Rust was asked too.
-    asked: u64,
+    /// The Rust was called too.
+    with_rust: u64,
     pub failures: u64,
     time: Duration,
 }
 
 impl Tally {
     fn count(&mut self, case: &Case) {
-        let (answer, asked) = document(&case.input, MOST);
+        let (answer, with_rust) = document(&case.input, MOST);
         self.processes += 1;
         self.in_pieces += u64::from(case.pieces.len() > 1);
-        self.asked += u64::from(asked);
+        self.with_rust += u64::from(with_rust);
         match answer {
             Err((number, _)) => *self.rows.entry(number).or_default() += 1,
             Ok(state) => {
@@ -399,7 +399,7 @@ impl fmt::Display for Tally {
         writeln!(f, "  a state printed: {states} ({})", list(classes))?;
         let numbers = self.rows.iter().map(|(number, count)| format!("row {number}: {count}")).collect();
         writeln!(f, "  refused: {rows} ({})", list(numbers))?;
-        writeln!(f, "  held against the Rust too: {}; written in pieces: {}", self.asked, self.in_pieces)
+        writeln!(f, "  held against the Rust too: {}; written in pieces: {}", self.with_rust, self.in_pieces)
     }
 }
 

@@ -6,7 +6,7 @@ use native.Mathlib.Omega.{arith}
 use mathlib.Core.Path.{_≡_, refl, sym, ap, _∙_}
 use mathlib.Core.Bool.{Bool, true, false, cond, not}
 use mathlib.Core.Logic.{_⊎_, inl, inr}
-use mathlib.Core.List.{List, [], _∷_, _++_, map, append-assoc}
+use mathlib.Core.List.{List, [], _∷_, _++_, map, append-assoc, flatten}
 use lib.ListN.{length, getD, take, drop, length-append, length-map, drop-of-length-le}
 use lib.Seq.{sets, sets-eq, take-at, drop-at}
 use lib.Dec.{ltb, leb, eqb}
@@ -22,9 +22,9 @@ use Rattle.fiber_types.proofs.RoundTrips.{le-leBytes}
 use Rattle.fiber_witness.specs.declared.witness.WitnessRead.{WitnessRead}
 use Rattle.fiber_witness.specs.declared.witness.WitnessRead.the-variants as read·
 use Rattle.fiber_witness.specs.Unlocks.{unlocksIn}
-use Rattle.fiber_witness.specs.Witness.{recordLen, flat, member, places, readWitness}
+use Rattle.fiber_witness.specs.Witness.{recordLen, member, places, readWitness}
 use Rattle.fiber_witness.specs.Update.{Taken, none, Unlocked, fine, faulty, takeUnlocks, keep, stateLeft, updated}
-use Rattle.fiber_witness.specs.inner.Strided.{sharePlace}
+use Rattle.fiber_witness.specs.inner.Strided.{behindTlcs}
 use Rattle.fiber_witness.proofs.WitnessLaws.{witness-unknown}
 use Rattle.fiber_witness.proofs.UnlocksLaws.{beginnings, beginnings-none, beginnings-more, Reads, reads-rest, reads-more, unlocks-read, unlocks-cut, unlocks-places}
 use Rattle.fiber_witness.proofs.UpdateLaws.{unlocks-none, unlocks-more, Comes, comes-fine, comes-faulty, unlocks-come, Ends, updated-refused, updated-turned, updated-fine}
@@ -172,7 +172,7 @@ abbrev pub unlocks : HostCall → List (List ℕ)
 unlocks c = unlocksIn (c .behind) .whole
 
 abbrev pub sharesAt : ℕ → Book → ℕ
-sharesAt h b = sharePlace h (length (standingOf b))
+sharesAt h b = behindTlcs h (length (standingOf b))
 
 abbrev pub took : ℕ → Book → HostCall → Unlocked
 took h b c = takeUnlocks (length (standingOf b)) (sharesAt h b) (witness b c) none (beginnings (1 + length (stateOf b)) (unlocks c))
@@ -273,7 +273,7 @@ module _ (h : ℕ) (b : Book) (ok : SoundBook h b) (c : HostCall) where
   whole = read·.Whole (length (standingOf b)) (length (places (witness b c) (1 + length (stateOf b)))) (sharesAt h b) (1 + length (stateOf b))
 
   abbrev cutAt : ℕ
-  cutAt = 1 + length (stateOf b) + length (flat (unlocks c))
+  cutAt = 1 + length (stateOf b) + length (flatten (unlocks c))
 
   read-is : readWitness h (witness b c) ≡ cond (eqb (length (unlocksIn (c .behind) .rest)) 0) whole (read·.Refused 4 cutAt)
   unfolding stateOf

@@ -4,7 +4,7 @@ use Prim.Native.Nat.{ℕ, zero, suc, _+_, _≤_, _<_}
 use native.Mathlib.Nat.{add-zero, le-refl}
 use native.Mathlib.Omega.{arith}
 use mathlib.Core.Path.{_≡_, refl, sym, ap, ap₂, subst, subst₂, fun-ext, _∙_}
-use mathlib.Core.Bool.{Bool, true, false, cond}
+use mathlib.Core.Bool.{Bool, true, false, _||_}
 use mathlib.Core.Logic.{_⊎_, inl, inr}
 use mathlib.Core.List.{List, [], _∷_, _++_, map, flatMap, map-map}
 use lib.ListN.{length, getD, drop, length-map, drop-of-length-le}
@@ -175,7 +175,7 @@ unfolding placesFrom
 places-below i zero k f g = absurd (omega arith)
 places-below i (suc n) k f g = rw member-more (go (eqb k i) refl (λ h. places-below (suc i) n k h (omega arith)))
   where
-    go : (t : Bool) → eqb k i ≡ t → (suc i ≤ k → member k (placesFrom (suc i) n) ≡ true) → cond t true (member k (placesFrom (suc i) n)) ≡ true
+    go : (t : Bool) → eqb k i ≡ t → (suc i ≤ k → member k (placesFrom (suc i) n) ≡ true) → (t || member k (placesFrom (suc i) n)) ≡ true
     go true e r = refl
     go false e r = r (omega (arith, eqb-false k i e))
 

@@ -2,9 +2,10 @@
 -- Assumes nothing.
 use Prim.Native.Nat.{ℕ, _≤_}
 use native.Mathlib.Omega.{arith}
-use mathlib.Core.Path.{_≡_, refl, ap}
+use mathlib.Core.Path.{_≡_, refl, ap, _∙_}
+use mathlib.Core.Logic.{inl}
 use mathlib.Core.Bool.{Bool}
-use mathlib.Core.List.{List, [], _∷_, _++_}
+use mathlib.Core.List.{List, [], _∷_, _++_, flatMap}
 use lib.ListN.{length, getD}
 use lib.Seq.{sets}
 use borrow.Author.Tests.{ne-eqb}
@@ -21,14 +22,17 @@ use Rattle.fiber_choice.specs.declared.kinds.Decision.{Decision}
 use Rattle.fiber_choice.specs.Request.{Request}
 use Rattle.fiber_choice.specs.Promises.{Promised}
 use Rattle.fiber_witness.proofs.WitnessLaws.{even-at}
+use Rattle.fiber_witness.proofs.StateLaws.{sound-length, state-count}
 use Rattle.fiber_choice.proofs.PromisesLaws.{Names, Parts, handed-parts, promises}
 use Rattle.settlement_c.specs.Settlement.{OutCall, updateCall}
 use Rattle.settlement_c.proofs.SettlementLaws.{called, update-written, written-bytes}
-use Rattle.book.specs.Book.{shareAmount, tlcsIn, shareIn, payeeOf}
-use Rattle.book.specs.Demand3.{hostTransition, Payment, payments, observe}
+use Rattle.book.specs.Trace.{trace, final}
+use Rattle.book.specs.Book.{shareAmount, tlcsIn, shareIn, placesFrom, opening, payeeOf}
+use Rattle.book.specs.Demand3.{HostCall, no-call, one-more, FirstState, hostTransition, bookTransition, Payment, payments, observe, start, total}
 use Rattle.book.specs.Paid.{payeeBy, PaysAmount}
+use Rattle.book.proofs.Demand3Proof.{demand3}
 use Rattle.book.proofs.AmountLaws.{tlc-amount, share-amount}
-use Rattle.book.proofs.StateLaws.{SoundParts, tlcs-of, share-of}
+use Rattle.book.proofs.StateLaws.{same-length, SoundParts, tlcs-of, share-of}
 
 -- the payment of an amount that a choice answers
 abbrev paymentBy : List ℕ → Choice → Amount → Payment
@@ -93,7 +97,23 @@ module _ (q : Request) (d : Decision) (bytes : List ℕ) (p : Parts q d bytes) w
   unfolding observe hostTransition
   observed x firsts count into answer f g = rw (accepts x count into answer f g, p .alone) (one-payment firsts)
 
+  -- the state is a first state
+  first : FirstState (q .h) state
+  first = record {
+    hash = p .sound .hash;
+    count = rw (p .state, state-count (p .sound)) (omega (arith, p .few));
+    size = rw (p .state, state-count (p .sound), same-length (q .h)) (sound-length (p .sound));
+  }
+
+  -- so what is counted from it on is what its book pays
+  paid-by-book : (c : HostCall) (pay : Payment) → c .h ≡ q .h → observe (q .h) (start state) c .answer ≡ pay ∷ []
+      → final bookTransition (opening (q .h) state) (c ∷ []) .paid ≡ pay .amount
+  unfolding trace flatMap total
+  paid-by-book c pay e f = demand3 (q .h) state first (c ∷ []) (one-more (inl e) no-call) .book-sum ∙ rw f (omega arith)
+
 -- The amount that a choice answers is what its unlock pays.
 pub pays-amount : PaysAmount
 pays-amount q isLater w out d e firsts count into answer f g =
-    observed q d _ (handed-parts q isLater w out d e) (promises q isLater w out d e) firsts count into answer f g
+    let p = handed-parts q isLater w out d e in
+    let x = promises q isLater w out d e in
+    (observed q d _ p x firsts count into answer f g, paid-by-book q d _ p _ _ refl (observed q d _ p x (placesFrom 0 (getD (state q d _ p) 0 0)) count into answer f g))

@@ -227,7 +227,7 @@ goes {w = w} {at = at} n from (reads-more {u = u} {us = us} k room byte r) t x =
 
 -- ---- which TLCs they settle
 
-or-swap : (x y z : Bool) → cond x true y || z ≡ y || (x || z)
+or-swap : (x y z : Bool) → x || y || z ≡ y || (x || z)
 or-swap true true z = refl
 or-swap true false z = refl
 or-swap false y z = refl

@@ -4,7 +4,7 @@ use Prim.Native.Nat.{ℕ, zero, suc, _+_, _≤_, _<_}
 use native.Mathlib.Nat.{add-zero, zero-add}
 use native.Mathlib.Omega.{arith}
 use mathlib.Core.Path.{_≡_, refl, sym, ap, _∙_}
-use mathlib.Core.Bool.{Bool, true, false, cond, not, false≢true}
+use mathlib.Core.Bool.{Bool, true, false, cond, not, false≢true, _||_, or-true}
 use mathlib.Core.List.{List, [], _∷_, map}
 use lib.ListN.{length, getD}
 use lib.Dec.{eqb}
@@ -42,11 +42,7 @@ rising-down (rising-more {i = i} g r) j h =
 -- the place was there
 pub without-member : {f : ℕ} {fs fs′ : List ℕ} → Without f fs fs′ → member f fs ≡ true
 without-member {f} here = simp (member-more, eq-eqb f f refl)
-without-member {f} (there {g = g} w) = rw member-more (go (eqb f g) (without-member w))
-  where
-    go : (b : Bool) {x : Bool} → x ≡ true → cond b true x ≡ true
-    go true e = refl
-    go false e = e
+without-member {f} (there {g = g} w) = rw (member-more, without-member w, or-true (eqb f g))
 
 -- it is there no longer
 pub without-gone : {f k : ℕ} {fs fs′ : List ℕ} → Without f fs fs′ → Rising k fs → member f fs′ ≡ false
@@ -74,7 +70,7 @@ unfolding without
 without-none f [] e = refl
 without-none f (g ∷ fs) e = go (eqb f g) refl (λ m. without-none f fs m) (rw member-more at e)
   where
-    go : (b : Bool) → eqb f g ≡ b → (member f fs ≡ false → without f fs ≡ fs) → cond b true (member f fs) ≡ false → without f (g ∷ fs) ≡ g ∷ fs
+    go : (b : Bool) → eqb f g ≡ b → (member f fs ≡ false → without f fs ≡ fs) → (b || member f fs) ≡ false → without f (g ∷ fs) ≡ g ∷ fs
     go true e r m = absurd (false≢true (sym m))
     go false e r m = rw e (ap (λ (l : List ℕ). g ∷ l) (r m))
 

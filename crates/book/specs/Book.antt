@@ -2,13 +2,13 @@
 -- document 01's words alone: no length and no reading of unlocks is the update's.
 use Prim.Native.Nat.{ℕ, zero, suc, _+_, _*_}
 use mathlib.Core.Bool.{Bool, true, false, cond}
-use mathlib.Core.List.{List, [], _∷_, map}
-use lib.ListN.{length, getD, drop, replicate}
+use mathlib.Core.List.{List, [], _∷_, map, flatten}
+use lib.ListN.{length, getD, replicate}
 use lib.Dec.{ltb, leb, eqb}
 use Rattle.fiber_bytes.specs.Bytes.{part, le}
 use Rattle.fiber_types.specs.Records.{validHashLen}
 use Rattle.fiber_witness.specs.Unlocks.{unlocksIn}
-use Rattle.fiber_witness.specs.Witness.{records, flat, stateBytes, member}
+use Rattle.fiber_witness.specs.Witness.{stateBytes, member}
 use Rattle.fiber_choice.specs.declared.kinds.Side.{Side}
 use Rattle.fiber_choice.specs.declared.kinds.Side.the-variants.{Remote, Local}
 use Rattle.book.specs.Trace.{Transition}
@@ -26,9 +26,14 @@ tlcAmount r = le (part r 1 16)
 unfoldable pub shareAmount : List ℕ → ℕ
 shareAmount s = le (part s 20 16)
 
+-- n places from i on
+unfoldable pub placesFrom : ℕ → ℕ → List ℕ
+placesFrom i zero = []
+placesFrom i (suc n) = i ∷ placesFrom (suc i) n
+
 -- a state of a channel whose hashes have h bytes: the number of TLCs, the TLCs, remote share, local share
 unfoldable pub tlcsIn : ℕ → List ℕ → List (List ℕ)
-tlcsIn h s = records (tlcLen h) (getD s 0 0) (drop 1 s)
+tlcsIn h s = map (λ (i : ℕ). part s (1 + i * tlcLen h) (tlcLen h)) (placesFrom 0 (getD s 0 0))
 
 unfoldable pub shareIn : ℕ → List ℕ → Side → List ℕ
 shareIn h s Remote = part s (1 + getD s 0 0 * tlcLen h) 36
@@ -42,11 +47,6 @@ pub record Book : Type 0 where
   pub standing : List ℕ
   pub shares : Side → List ℕ
   pub paid : ℕ
-
--- n places from i on
-unfoldable pub placesFrom : ℕ → ℕ → List ℕ
-placesFrom i zero = []
-placesFrom i (suc n) = i ∷ placesFrom (suc i) n
 
 -- a first state's book
 unfoldable pub opening : ℕ → List ℕ → Book
@@ -145,5 +145,5 @@ enter b c =
     let u = unlocksIn (c .behind) in
     cond (ltb (c .answer) 24) (unmoved (alone 14) b)
     (cond (validHashLen (c .h))
-    (cond (eqb (length (u .rest)) 0) (run (c .out) b at b (u .whole)) (unmoved (refused 4 (at + length (flat (u .whole)))) b))
+    (cond (eqb (length (u .rest)) 0) (run (c .out) b at b (u .whole)) (unmoved (refused 4 (at + length (flatten (u .whole)))) b))
     (unmoved (refused 14 0) b))

@@ -1,17 +1,17 @@
 -- What the proofs of `blake2b` cite: straight-line code by what each call left, and a turn of each loop.
 -- Assumes nothing.
 use mathlib.Core.Path.{_≡_, refl, sym, ap, ap₂, _∙_}
-use mathlib.Core.List.{List, [], _∷_, _++_, append-assoc, append-nil}
+use mathlib.Core.List.{List, [], _∷_, _++_, flatMap}
 use Prim.Native.Nat.{ℕ, zero, suc, _+_, _-_, _*_, _/_, _%_, _^_, _≤_, _<_}
 use native.Mathlib.Numerals.{add-one}
 use native.Mathlib.Omega.{arith}
-use lib.ListN.{length, getD, set, take, drop, length-append, length-take, length-set}
-use lib.Seq.{take-suc, take-suc-set, take-all, take-at, take-nil, take-append-add, sets, sets-eq, length-sets}
+use lib.ListN.{length, getD, set, take, length-take, length-set}
+use lib.Seq.{take-suc-set, take-all, take-nil, take-append-add}
 use lib.Bits.{bitXor}
 use Rattle.fiber_bytes.specs.Bytes.{part, le, leBytes, numbers}
 use Rattle.fiber_bytes.specs.Words.{rotated}
 use Rattle.fiber_blake2b.specs.Blake2b.{iv, sigma, added, turned, half, mixed, columns, diagonals, picked, round, rounds, start, folded, words, compressed, absorbed, hashed, params, initial, chain, blake2b, ckbPersonal, ckbHash}
-use Rattle.fiber_bytes.proofs.BytesLaws.{leBytes-length}
+use Rattle.fiber_bytes.proofs.BytesLaws.{leBytes-length, each-length}
 
 -- G
 pub added-by : (v : List ℕ) (a b x p q : ℕ) → p ≡ (getD v a 0 + getD v b 0) % 2 ^ 64 → q ≡ (p + x) % 2 ^ 64 → set v a q ≡ added v a b x
@@ -111,42 +111,8 @@ unfolding initial params iv le
 initial-by p d x y e f = rw (e, f)
 
 -- the words as bytes
-words-append : (xs ys : List ℕ) → numbers (xs ++ ys) ≡ numbers xs ++ numbers ys
-unfolding numbers
-words-append [] ys = refl
-words-append (x ∷ xs) ys = ap (λ (l : List ℕ). leBytes 8 x ++ l) (words-append xs ys) ∙ sym (append-assoc (leBytes 8 x) (numbers xs) (numbers ys))
-
-word-bytes : (x : ℕ) → numbers (x ∷ []) ≡ leBytes 8 x
-unfolding numbers
-word-bytes x = append-nil (leBytes 8 x)
-
-words-suc : (h : List ℕ) (i : ℕ) → i < length h → numbers (take (i + 1) h) ≡ numbers (take i h) ++ leBytes 8 (getD h i 0)
-words-suc h i l = rw (add-one, take-suc h i 0 l, words-append, word-bytes)
-
-take-sets : (l vs : List ℕ) (i k : ℕ) → k ≡ i + length vs → k ≤ length l → take k (sets l i vs) ≡ take i l ++ vs
-take-sets l vs i k e h =
-    let d = drop (i + length vs) l in
-    let n : length (take i l ++ vs) ≡ k = simp (length-append, length-take) (omega arith) in
-    ap (take k) (sets-eq vs l i (omega arith)) ∙ take-at (take i l ++ vs) d k n
-
-pub bytes-length : (out w : List ℕ) (i x n : ℕ) → w ≡ sets out i (leBytes 8 x) → length out ≡ n → length w ≡ n
-bytes-length out w i x n e f = ap length e ∙ length-sets out i (leBytes 8 x) ∙ f
-
-pub bytes-more : (h out w : List ℕ) (i : ℕ) → i < length h → 8 * i + 8 ≤ length out → take (8 * i) out ≡ numbers (take i h) → w ≡ sets out (8 * i) (leBytes 8 (getD h i 0))
-    → take (8 * (i + 1)) w ≡ numbers (take (i + 1) h)
-bytes-more h out w i l k e f =
-    let b = leBytes 8 (getD h i 0) in
-    let n : 8 * (i + 1) ≡ 8 * i + length b = omega (arith, leBytes-length 8 (getD h i 0)) in
-    ap (take (8 * (i + 1))) f ∙ take-sets out b (8 * i) (8 * (i + 1)) n (omega arith)
-    ∙ ap (λ (a : List ℕ). a ++ b) e ∙ sym (words-suc h i l)
-
-pub bytes-all : (h out : List ℕ) (n i : ℕ) → i ≤ n → n ≤ i → length out ≡ 8 * n → take (8 * i) out ≡ numbers (take i h) → out ≡ numbers (take n h)
-bytes-all h out n i l k e f =
-    let g : i ≡ n = omega arith in
-    sym (take-all (8 * i) out (omega arith)) ∙ f ∙ ap (λ (j : ℕ). numbers (take j h)) g
-
 bytes-front : (h : List ℕ) (n : ℕ) → take (8 * n) (numbers h) ≡ numbers (take n h)
-unfolding numbers
+unfolding flatMap
 bytes-front h zero = refl
 bytes-front [] (suc n) = take-nil (8 * suc n)
 bytes-front (x ∷ xs) (suc n) =
@@ -182,18 +148,12 @@ hashed-from p s h₀ h e f = f ∙ ap (λ (l : List ℕ). hashed l s) e
 pub eight : (p s h₀ h : List ℕ) → h₀ ≡ initial 8 p → h ≡ hashed h₀ s → length h ≡ 8
 eight p s h₀ h e f = ap length (hashed-from p s h₀ h e f) ∙ hashed-length (initial 8 p) s ∙ initial-length p
 
--- eight bytes for each word
-words-length : (l : List ℕ) → length (numbers l) ≡ 8 * length l
-unfolding numbers
-words-length [] = refl
-words-length (x ∷ l) = omega (arith, length-append (leBytes 8 x) (numbers l), leBytes-length 8 x, words-length l)
-
 -- a CKB hash has 32 bytes
 pub ckb-length : (s : List ℕ) → length (ckbHash s) ≡ 32
 unfolding ckbHash blake2b chain params
 ckb-length s =
     let h = hashed (initial 8 (params 32 ckbPersonal)) s in
-    length-take 32 (numbers h) ∙ omega (arith, words-length h, eight (params 32 ckbPersonal) s _ h refl refl)
+    length-take 32 (numbers h) ∙ omega (arith, each-length (leBytes 8) 8 (leBytes-length 8) h, eight (params 32 ckbPersonal) s _ h refl refl)
 
 pub chain-by : (p s h₀ h r : List ℕ) → h₀ ≡ initial 8 p → h ≡ hashed h₀ s → r ≡ numbers (take 8 h) → r ≡ chain p s
 unfolding chain

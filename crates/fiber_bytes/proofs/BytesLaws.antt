@@ -1,17 +1,17 @@
 -- Laws of `specs/Bytes.antt`: numbers in bytes by halves, and runs of stores.
 -- Assumes nothing.
 use mathlib.Core.Path.{_≡_, refl, sym, ap, ap₂, _∙_}
-use mathlib.Core.List.{List, [], _∷_, _++_, append-nil}
+use mathlib.Core.List.{List, [], _∷_, _++_, append-nil, append-assoc, flatMap}
 use mathlib.Core.Bool.{Bool, true, false}
 use mathlib.Core.Logic.{_⊎_, inl, inr, ⊎-elim}
 use Prim.Native.Nat.{ℕ, zero, suc, min, _+_, _-_, _*_, _/_, _%_, _^_, _≤_, _<_}
-use native.Mathlib.Nat.{add-zero, add-suc, suc-add, zero-add, mul-assoc, mul-comm, pow-zero, pow-suc, div-one, div-div-eq-div-mul, pow-le-pow-right}
+use native.Mathlib.Nat.{add-zero, add-suc, suc-add, zero-add, mul-assoc, mul-comm, mul-zero, mul-suc, pow-zero, pow-suc, div-one, div-div-eq-div-mul, pow-le-pow-right}
 use native.Mathlib.Numerals.{add-one}
 use native.Mathlib.Omega.{arith}
 use lib.Dec.{leb}
 use borrow.Author.Tests.{leb-true, leb-false}
-use lib.ListN.{length, getD, set, take, drop, replicate, drop-of-length-le, length-take, length-drop, take-append-drop}
-use lib.Seq.{sets, length-sets, sets-eq, length-take-le, drop-cons, drop-drop, take-add, take-take, take-all, set-out}
+use lib.ListN.{length, getD, set, take, drop, replicate, drop-of-length-le, length-append, length-take, length-drop, take-append-drop}
+use lib.Seq.{sets, length-sets, sets-eq, length-take-le, drop-cons, drop-drop, take-add, take-take, take-all, take-at, set-out}
 use Rattle.fiber_bytes.specs.Bytes.{part, le, leBytes, numbers}
 
 pub either : (a b : ℕ) → (a ≤ b) ⊎ (b < a)
@@ -42,7 +42,7 @@ part-rest s at n h =
     take-all (length s - at) (drop at s) (omega (arith, e)) ∙ sym (take-all n (drop at s) (omega (arith, e)))
 
 -- taking from the front, cut before it
-take-within : (k m n : ℕ) (l : List ℕ) → k + m ≤ n → take m (drop k (take n l)) ≡ take m (drop k l)
+pub take-within : (k m n : ℕ) (l : List ℕ) → k + m ≤ n → take m (drop k (take n l)) ≡ take m (drop k l)
 take-within zero m n l h = take-take m n l (omega arith)
 take-within (suc k) m zero l h = absurd (omega arith)
 take-within (suc k) m (suc n) [] h = refl
@@ -166,12 +166,13 @@ put-end l src at i e = ⊎-elim whole (λ h. sym (sets-out (drop i src) l (at + 
         let g : length src ≤ i = omega arith in
         rw (drop-of-length-le src g)
 
-left : (m i : ℕ) → i < m → m - i ≡ suc (m - (i + 1))
-left m i h = omega arith
+-- what is left of m at i, one step on
+pub one-less : (m i : ℕ) → i < m → m - i ≡ suc (m - (i + 1))
+one-less m i h = omega arith
 
 pub put-byte : (l : List ℕ) (at i m x : ℕ) → i < m → sets (set l (at + i) (x % 256)) (at + (i + 1)) (leBytes (m - (i + 1)) (x / 256)) ≡ sets l (at + i) (leBytes (m - i) x)
 unfolding leBytes
-put-byte l at i m x h = rw (left m i h, add-one, add-suc)
+put-byte l at i m x h = rw (one-less m i h, add-one, add-suc)
 
 pub put-byte-end : (l : List ℕ) (at i m x : ℕ) → i ≡ min m (length l - at) → l ≡ sets l (at + i) (leBytes (m - i) x)
 unfolding leBytes
@@ -182,22 +183,54 @@ put-byte-end l at i m x e = ⊎-elim whole (λ h. sym (sets-out (leBytes (m - i)
         let g : m - i ≡ 0 = omega arith in
         rw g
 
+-- ---- numbers one behind the other, each written by f as k bytes
+
+module _ (f : ℕ → List ℕ) (k : ℕ) (sized : (x : ℕ) → length (f x) ≡ k) where
+  pub each-length : (l : List ℕ) → length (flatMap f l) ≡ k * length l
+  unfolding flatMap
+  each-length [] = sym (mul-zero k)
+  each-length (x ∷ l) = length-append (f x) (flatMap f l) ∙ rw (sized, each-length l, mul-suc) (omega arith)
+
+  one-more : (l : List ℕ) (i : ℕ) → i < length l → flatMap f (take (suc i) l) ≡ flatMap f (take i l) ++ f (getD l i 0)
+  unfolding flatMap
+  one-more [] i h = absurd (omega arith)
+  one-more (x ∷ l) zero h = append-nil (f x)
+  one-more (x ∷ l) (suc i) h = ap (λ (r : List ℕ). f x ++ r) (one-more l i (omega arith)) ∙ sym (append-assoc (f x) (flatMap f (take i l)) (f (getD l i 0)))
+
+  -- a turn: one more is written behind the first i
+  pub each-more : (l out w : List ℕ) (i at next : ℕ) → next ≡ at + k → i < length l → next ≤ length out → take at out ≡ flatMap f (take i l) → w ≡ sets out at (f (getD l i 0))
+      → (length w ≡ length out) × (take next w ≡ flatMap f (take (i + 1) l))
+  each-more l out w i at next n h room e g =
+      let b = f (getD l i 0) in
+      let m : at + length b ≡ next = omega (arith, sized (getD l i 0)) in
+      let c : length (take at out ++ b) ≡ next = simp (length-append, length-take) (omega (arith, sized (getD l i 0))) in (
+        ap length g ∙ length-sets out at b,
+        ap (take next) (g ∙ sets-eq b out at (omega arith))
+            ∙ take-at (take at out ++ b) (drop (at + length b) out) next c
+            ∙ ap (λ (a : List ℕ). a ++ b) e
+            ∙ rw add-one (sym (one-more l i h)),
+      )
+
+  -- the last turn is done
+  pub each-end : (l out : List ℕ) (n i at : ℕ) → i ≡ n → length out ≤ at → take at out ≡ flatMap f (take i l) → out ≡ flatMap f (take n l)
+  each-end l out n i at e h g = sym (take-all at out h) ∙ g ∙ ap (λ (j : ℕ). flatMap f (take j l)) e
+
 -- ---- numbers, eight bytes each
 
 -- one alone
 pub numbers-one : (x : ℕ) → numbers (x ∷ []) ≡ leBytes 8 x
-unfolding numbers
+unfolding flatMap
 numbers-one x = append-nil (leBytes 8 x)
 
 -- one number more is written, at its place
 pub numbers-more : (l ns : List ℕ) (at i place : ℕ) → i < length ns → place ≡ at + 8 * i
     → sets (sets l place (leBytes 8 (getD ns i 0))) (at + 8 * (i + 1)) (numbers (drop (i + 1) ns)) ≡ sets l (at + 8 * i) (numbers (drop i ns))
-unfolding numbers
+unfolding flatMap
 numbers-more l ns at i place h f =
     let e : at + 8 * (i + 1) ≡ at + 8 * i + length (leBytes 8 (getD ns i 0)) = omega (arith, leBytes-length 8 (getD ns i 0)) in
     rw (f, drop-cons ns i 0 h, e, add-one) (sym (sets-append (leBytes 8 (getD ns i 0)) (numbers (drop (suc i) ns)) l (at + 8 * i)))
 
 -- all are
 pub numbers-end : (l ns : List ℕ) (at i : ℕ) → length ns ≤ i → sets l (at + 8 * i) (numbers (drop i ns)) ≡ l
-unfolding numbers
+unfolding flatMap
 numbers-end l ns at i h = rw (drop-of-length-le ns h)

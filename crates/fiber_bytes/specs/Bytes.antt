@@ -1,7 +1,7 @@
 -- Numbers held in bytes, and parts of a list of bytes.
 -- Document 01, Records: "Numbers held in bytes are little-endian, here and in every later layout."
 use Prim.Native.Nat.{ℕ, zero, suc, _+_, _*_, _/_, _%_, _^_}
-use mathlib.Core.List.{List, [], _∷_, _++_}
+use mathlib.Core.List.{List, [], _∷_, _++_, flatMap}
 use lib.ListN.{length, take, drop}
 
 -- the n bytes of s from a place on, or fewer where s ends before
@@ -19,9 +19,8 @@ leBytes zero x = []
 leBytes (suc n) x = x % 256 ∷ leBytes n (x / 256)
 
 -- numbers one behind the other, eight bytes each
-unfoldable pub numbers : List ℕ → List ℕ
-numbers [] = []
-numbers (x ∷ xs) = leBytes 8 x ++ numbers xs
+abbrev pub numbers : List ℕ → List ℕ
+numbers xs = flatMap (leBytes 8) xs
 
 -- highest first (FIPS 180-4, 3.1)
 unfoldable pub be : List ℕ → ℕ

@@ -5,7 +5,7 @@ use native.Mathlib.Nat.{zero-mul, suc-mul, add-zero, mul-le-mul-right, zero-div,
 use native.Mathlib.Numerals.{add-one}
 use native.Mathlib.Omega.{arith}
 use mathlib.Core.Path.{_≡_, refl, sym, ap, _∙_}
-use mathlib.Core.Bool.{Bool, true, false, _&&_, and-true, and-false, and-eq-true-iff, false≢true}
+use mathlib.Core.Bool.{Bool, true, false, cond, _&&_, and-true, and-false, and-eq-true-iff, false≢true}
 use mathlib.Core.List.{List, [], _∷_, _++_}
 use lib.Dec.{eqb}
 use lib.ListN.{length, getD, take, drop, drop-of-length-le, length-append}
@@ -13,8 +13,11 @@ use lib.Seq.{drop-cons, drop-drop, drop-nil, take-at, drop-at, getD-take, getD-d
 use borrow.Author.Tests.{eq-eqb, ne-eqb, eqb-true, le-leb, lt-leb}
 use Rattle.fiber_bytes.specs.Bytes.{part}
 use Rattle.fiber_types.specs.declared.tlc.Amount.{Amount}
-use Rattle.fiber_witness.specs.Witness.{records}
-use Rattle.fiber_choice.specs.Entries.{same, sameLists, entries, all, settlementLen, validSettlement, trackedLen, trackedRecord, trackedRecords, validTracked}
+use Rattle.fiber_witness.specs.Witness.{chunks}
+use Rattle.fiber_bytes.proofs.CaseLaws.{by-each}
+use Rattle.fiber_choice.specs.declared.kinds.Found.{Found}
+use Rattle.fiber_choice.specs.declared.kinds.Found.the-variants as found·
+use Rattle.fiber_choice.specs.Entries.{same, sameLists, entries, all, findFirst, settlementLen, validSettlement, trackedLen, trackedRecord, trackedRecords, validTracked}
 use Rattle.fiber_choice.specs.Request.{SettlementData, validData}
 use Rattle.fiber_witness.proofs.WitnessLaws.{records-length, records-none, records-more}
 
@@ -91,8 +94,8 @@ pub part-byte : (s : List ℕ) (at size k : ℕ) → k < size → getD (part s a
 part-byte s at size k h = getD-take size (drop at s) k 0 h ∙ getD-drop at s k 0
 
 -- the record at a place of m
-pub record-at : (size m : ℕ) (s : List ℕ) (i : ℕ) → i < m → getD (records size m s) i [] ≡ part s (i * size) size
-unfolding records
+pub record-at : (size m : ℕ) (s : List ℕ) (i : ℕ) → i < m → getD (chunks size m s) i [] ≡ part s (i * size) size
+unfolding chunks
 record-at size zero s i h = absurd (omega arith)
 record-at size (suc m) s zero h = rw (zero-mul size)
 record-at size (suc m) s (suc i) h =
@@ -124,7 +127,7 @@ module _ (size : ℕ) (s : List ℕ) where
 -- no bytes hold no entry
 pub entries-none : (size : ℕ) → entries size [] ≡ []
 unfolding entries
-entries-none size = ap (λ (m : ℕ). records size m []) (zero-div size) ∙ records-none size []
+entries-none size = ap (λ (m : ℕ). chunks size m []) (zero-div size) ∙ records-none size []
 
 -- bytes of an entry in front are the first one
 pub entries-append : (size : ℕ) (e s : List ℕ) → 0 < size → length e ≡ size → entries size (e ++ s) ≡ e ∷ entries size s
@@ -132,7 +135,7 @@ unfolding entries
 entries-append size e s p n =
     let l : length (e ++ s) ≡ length s + 1 * size = omega (arith, length-append e s) in
     let q : length (e ++ s) / size ≡ suc (length s / size) = ap (λ (x : ℕ). x / size) l ∙ add-mul-div-right (length s) 1 p ∙ add-one (length s / size) in
-    ap (λ (m : ℕ). records size m (e ++ s)) q
+    ap (λ (m : ℕ). chunks size m (e ++ s)) q
     ∙ records-more size (length s / size) (e ++ s)
     ∙ rw (take-at e s size n, drop-at e s size n)
 
@@ -199,6 +202,46 @@ module _ (good : List ℕ → Bool) (size : ℕ) (s : List ℕ) (whole : Bool) (
     pub checking-good : good (part s at size) ≡ true → Along size s (all good) whole (at + size) (i + 1)
     unfolding all
     checking-good e = along-next size s (all good) whole at i c h (all good) (λ es. rw e)
+
+-- ---- the first that passes a test
+
+module _ (test : List ℕ → Bool) (size : ℕ) (s : List ℕ) (whole : Found) (at i : ℕ) (c : Along size s (findFirst test i) whole at i) where
+  -- none did
+  pub finding-end : length s / size ≤ i → found·.None ≡ whole
+  unfolding findFirst
+  finding-end h = along-end size s (findFirst test i) whole at i c h
+
+  module _ (h : i < length s / size) where
+    -- one that does
+    pub finding-this : test (part s at size) ≡ true → found·.At i ≡ whole
+    unfolding findFirst
+    finding-this e = along-stop size s (findFirst test i) whole at i c h (found·.At i) (λ es. rw e)
+
+    -- one that does not
+    pub finding-more : test (part s at size) ≡ false → Along size s (findFirst test (i + 1)) whole (at + size) (i + 1)
+    unfolding findFirst
+    finding-more e = along-next size s (findFirst test i) whole at i c h (findFirst test (i + 1)) (λ es. rw e)
+
+-- no entry, and one more in front
+module _ (test : List ℕ → Bool) (i : ℕ) where
+  pub find-none : findFirst test i [] ≡ found·.None
+  unfolding findFirst
+  find-none = refl
+
+  pub find-more : (e : List ℕ) (es : List (List ℕ)) → findFirst test i (e ∷ es) ≡ cond (test e) (found·.At i) (findFirst test (i + 1) es)
+  unfolding findFirst
+  find-more e es = refl
+
+-- what is found is among n
+abbrev pub FoundBelow : ℕ → Found → Type 0
+FoundBelow n (found·.At i) = i < n
+FoundBelow n found·.None = Unit {0}
+
+-- only an entry of the list is found
+pub found-below : (test : List ℕ → Bool) (es : List (List ℕ)) (i n : ℕ) → i + length es ≤ n → FoundBelow n (findFirst test i es)
+unfolding findFirst
+found-below test [] i n h = tt
+found-below test (e ∷ es) i n h = by-each (FoundBelow n) (test e) _ _ (omega arith) (found-below test es (i + 1) n (omega arith))
 
 -- a settlement TLC, by its first two bytes
 module _ (s : List ℕ) (at : ℕ) where

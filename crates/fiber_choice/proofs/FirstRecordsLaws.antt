@@ -6,7 +6,7 @@ use native.Mathlib.Numerals.{add-one}
 use native.Mathlib.Omega.{arith}
 use mathlib.Core.Path.{_≡_, refl, sym, ap, _∙_}
 use mathlib.Core.Bool.{Bool, true, false, cond, _&&_, and-true, and-eq-true-iff}
-use mathlib.Core.List.{List, [], _∷_, _++_}
+use mathlib.Core.List.{List, [], _∷_, _++_, flatten}
 use lib.Dec.{eqb, leb}
 use lib.ListN.{length, getD, take, drop, set, replicate, drop-of-length-le, length-take, length-drop, length-append}
 use lib.Seq.{sets, length-sets, drop-cons, take-take, take-all}
@@ -23,11 +23,11 @@ use Rattle.fiber_types.specs.declared.tlc.Tlc.{Tlc}
 use Rattle.fiber_types.specs.Key.{keyHash}
 use Rattle.fiber_types.specs.Records.{Outcome, amountAt, validHashLen, wroteTlc, outcome}
 use Rattle.fiber_types.proofs.RecordsLaws.{hash-len-small, tlcBytes-length, tlc-written, outcome-unfit, outcome-short, outcome-whole, outcome-length}
-use Rattle.fiber_witness.specs.Witness.{recordLen, records, flat}
+use Rattle.fiber_witness.specs.Witness.{recordLen, chunks}
 use Rattle.fiber_choice.specs.Entries.{same, sameLists, entries, wholeEntries, all, settlementLen, validSettlement, localKey, remoteKey}
 use Rattle.fiber_choice.specs.FirstRecords.{hashOf, firstRecord, firstRecords, wroteFirstTlc, shareBytes, firstRemote, firstLocal, firstState, wroteFirst}
 use Rattle.fiber_choice.specs.Request.{SettlementData, validData}
-use Rattle.fiber_witness.proofs.WitnessLaws.{records-length, Even, even-none, even-more, flat-even, state-size}
+use Rattle.fiber_witness.proofs.WitnessLaws.{records-length, Even, even-none, even-more, flatten-even, state-size}
 use Rattle.fiber_witness.proofs.StridedLaws.{state-puts}
 use Rattle.fiber_choice.proofs.EntriesLaws.{entries-length, entry-room, lists-short, Along, along-cons, along-next, along-room, along-stop, along-end}
 use Rattle.fiber_choice.proofs.HandedLaws.{sets-back, tlcs, tlcs-length, tlc-at}
@@ -57,8 +57,14 @@ module _ (h : ℕ) (b : Bool) (t : List ℕ) (k : validHashLen h ≡ true) (n : 
       tlcBytes-length _ (take h (part t 18 32)) (hashOf (cond b (remoteKey t) (localKey t))) (hashOf (cond b (localKey t) (remoteKey t)))
       ∙ omega (arith, first-hash-length, key-length (cond b (remoteKey t) (localKey t)), key-length (cond b (localKey t) (remoteKey t)))
 
-  -- what `tlc::write` leaves of its parts
-  module _ (out out′ : List ℕ) (r : recordLen h ≤ length out) (x : Amount) (z : ℕ) (ex : x ≡ amountAt t 2) (ez : z ≡ le (part t 50 8))
+  -- read back from the front of the array that `first_record` makes
+  pub first-back : (o : List ℕ) → o ≡ sets (replicate 97 0) 0 (firstRecord h b t) → (m : ℕ) → m ≡ recordLen h → part o 0 m ≡ firstRecord h b t
+  first-back o e m f =
+      ap (λ (q : List ℕ). part q 0 m) e
+      ∙ sets-back (replicate 97 0) (firstRecord h b t) 0 m (f ∙ sym first-length) (omega (arith, first-length, hash-len-small h k))
+
+  -- what `tlc::write` leaves of its parts in that array
+  module _ (out′ : List ℕ) (x : Amount) (z : ℕ) (ex : x ≡ amountAt t 2) (ez : z ≡ le (part t 50 8))
       (H l m : List ℕ) (L M : KeyHash) (eH : H ≡ part t 18 h) (el : l ≡ localKey t) (eL : L ≡ keyHash l) (em : m ≡ remoteKey t) (eM : M ≡ keyHash m) where
     abbrev put : Tlc
     put = record { kind = getD t 1 0 * 2 + getD t 0 0; amount = x; expiry = 2 ^ 62 + z / 1000 }
@@ -69,8 +75,8 @@ module _ (h : ℕ) (b : Bool) (t : List ℕ) (k : validHashLen h ≡ true) (n : 
     remote-hash : M .bytes ≡ hashOf (remoteKey t)
     remote-hash = ap (λ (q : KeyHash). q .bytes) eM ∙ ap hashOf em
 
-    wrote : (A B : List ℕ) → A ≡ hashOf (cond b (remoteKey t) (localKey t)) → B ≡ hashOf (cond b (localKey t) (remoteKey t)) → out′ ≡ wroteTlc put H A B out .bytes
-        → out′ ≡ sets out 0 (firstRecord h b t)
+    wrote : (A B : List ℕ) → A ≡ hashOf (cond b (remoteKey t) (localKey t)) → B ≡ hashOf (cond b (localKey t) (remoteKey t)) → out′ ≡ wroteTlc put H A B (replicate 97 0) .bytes
+        → out′ ≡ sets (replicate 97 0) 0 (firstRecord h b t)
     unfolding firstRecord
     wrote A B eA eB w =
         let nH : length H ≡ h = ap length (eH ∙ first-hash) ∙ first-hash-length in
@@ -78,22 +84,22 @@ module _ (h : ℕ) (b : Bool) (t : List ℕ) (k : validHashLen h ≡ true) (n : 
         let nA : length A ≡ 20 = ap length eA ∙ key-length (cond b (remoteKey t) (localKey t)) in
         let nB : length B ≡ 20 = ap length eB ∙ key-length (cond b (localKey t) (remoteKey t)) in
         w
-        ∙ sym (tlc-written put H A B out kH nA nB (omega arith) _ refl .1)
+        ∙ sym (tlc-written put H A B (replicate 97 0) kH nA nB (omega (arith, hash-len-small h k)) _ refl .1)
         ∙ rw (ex, ez, eA, eB, eH ∙ first-hash)
 
     -- the key hashes are remote, local
-    pub first-remote : b ≡ true → out′ ≡ wroteTlc put H (M .bytes) (L .bytes) out .bytes → out′ ≡ sets out 0 (firstRecord h b t)
+    pub first-remote : b ≡ true → out′ ≡ wroteTlc put H (M .bytes) (L .bytes) (replicate 97 0) .bytes → out′ ≡ sets (replicate 97 0) 0 (firstRecord h b t)
     first-remote e w = wrote (M .bytes) (L .bytes) (rw e remote-hash) (rw e local-hash) w
 
     -- or swapped
-    pub first-local : b ≡ false → out′ ≡ wroteTlc put H (L .bytes) (M .bytes) out .bytes → out′ ≡ sets out 0 (firstRecord h b t)
+    pub first-local : b ≡ false → out′ ≡ wroteTlc put H (L .bytes) (M .bytes) (replicate 97 0) .bytes → out′ ≡ sets (replicate 97 0) 0 (firstRecord h b t)
     first-local e w = wrote (L .bytes) (M .bytes) (rw e local-hash) (rw e remote-hash) w
 
 -- ---- one settlement TLC
 
 -- a list of one entry
 pub one-valid : (t : List ℕ) → length t ≡ 124 → all validSettlement (entries settlementLen t) ≡ validSettlement t
-unfolding all entries records
+unfolding all entries chunks
 one-valid t n = rw (n, take-all 124 t (omega arith)) (and-true (validSettlement t))
 
 module _ (h : ℕ) (b : Bool) (t out : List ℕ) where
@@ -171,19 +177,19 @@ module _ (h : ℕ) (b : Bool) where
   firsts-count (e ∷ es) = ap suc (firsts-count es)
 
   -- of 65 + h bytes each
-  firsts-each : validHashLen h ≡ true → (m : ℕ) (s : List ℕ) → m * 124 ≤ length s → Even (recordLen h) (firstRecords h b (records 124 m s))
-  unfolding firstRecords records
+  firsts-each : validHashLen h ≡ true → (m : ℕ) (s : List ℕ) → m * 124 ≤ length s → Even (recordLen h) (firstRecords h b (chunks 124 m s))
+  unfolding firstRecords chunks
   firsts-each k zero s g = even-none
   firsts-each k (suc m) s g =
       even-more (first-length h b (take 124 s) k (omega (arith, length-take 124 s, suc-mul m 124)))
       (firsts-each k m (drop 124 s) (omega (arith, length-drop 124 s, suc-mul m 124)))
 
   -- so many bytes
-  pub firsts-flat : validHashLen h ≡ true → (s : List ℕ) → length (flat (firstRecords h b (entries settlementLen s))) ≡ length s / 124 * recordLen h
+  pub firsts-flat : validHashLen h ≡ true → (s : List ℕ) → length (flatten (firstRecords h b (entries settlementLen s))) ≡ length s / 124 * recordLen h
   unfolding entries
   firsts-flat k s =
-      flat-even (firsts-each k (length s / 124) s (omega arith))
-      ∙ ap (λ (j : ℕ). j * recordLen h) (firsts-count (records 124 (length s / 124) s) ∙ records-length 124 (length s / 124) s)
+      flatten-even (firsts-each k (length s / 124) s (omega arith))
+      ∙ ap (λ (j : ℕ). j * recordLen h) (firsts-count (chunks 124 (length s / 124) s) ∙ records-length 124 (length s / 124) s)
 
 -- the TLCs from here on are well
 module _ (s : List ℕ) (from i : ℕ) (c : Along settlementLen s (all validSettlement) true from i) (g : i < length s / 124) where
@@ -192,9 +198,14 @@ module _ (s : List ℕ) (from i : ℕ) (c : Along settlementLen s (all validSett
   unfolding all
   valid-here = and-eq-true-iff (validSettlement (part s from 124)) _ .0 (along-cons settlementLen s (all validSettlement) true from i c g) .0
 
-  -- as `put_first` wants it
+  -- as `first_record` wants it
   pub valid-asks : (t : List ℕ) → t ≡ part s from 124 → (validSettlement t ≡ true) × (length t ≡ 124)
   valid-asks t e = (rw e valid-here, ap length e ∙ part-length s from 124 (along-room settlementLen s (all validSettlement) true from i c g))
+
+  -- its record, read back
+  pub back-here : (h : ℕ) (b : Bool) → validHashLen h ≡ true → (t o : List ℕ) → t ≡ part s from 124 → o ≡ sets (replicate 97 0) 0 (firstRecord h b t)
+      → (m : ℕ) → m ≡ recordLen h → part o 0 m ≡ firstRecord h b (part s from 124)
+  back-here h b k t o e d = first-back h b (part s from 124) k (valid-asks _ refl .1) o (rw e at d)
 
   -- those behind it
   pub valid-next : Along settlementLen s (all validSettlement) true (from + 124) (i + 1)
@@ -207,14 +218,14 @@ valid-start s e = record { low = omega arith; place = omega arith; rest = e }
 
 module _ (h : ℕ) (b : Bool) (s out₀ : List ℕ) where
   abbrev whole : List ℕ
-  whole = flat (firstRecords h b (entries settlementLen s))
+  whole = flatten (firstRecords h b (entries settlementLen s))
 
   -- The loop that writes them from byte 1 on: to write what is left, from here, gives what the whole gives.
   pub record Firsts (out : List ℕ) (from at i : ℕ) : Type 0 where
     pub valid : Along settlementLen s (all validSettlement) true from i
     pub same : length out ≡ length out₀
-    pub ends : Along settlementLen s (λ (es : List (List ℕ)). at + length (flat (firstRecords h b es))) (1 + length whole) from i
-    pub writes : Along settlementLen s (λ (es : List (List ℕ)). sets out at (flat (firstRecords h b es))) (sets out₀ 1 whole) from i
+    pub ends : Along settlementLen s (λ (es : List (List ℕ)). at + length (flatten (firstRecords h b es))) (1 + length whole) from i
+    pub writes : Along settlementLen s (λ (es : List (List ℕ)). sets out at (flatten (firstRecords h b es))) (sets out₀ 1 whole) from i
 
   -- before the first
   pub firsts-start : all validSettlement (entries settlementLen s) ≡ true → Firsts out₀ 0 1 0
@@ -228,8 +239,8 @@ module _ (h : ℕ) (b : Bool) (s out₀ : List ℕ) where
   module _ (out : List ℕ) (from at i : ℕ) (c : Firsts out from at i) where
     -- at the end all is written
     pub firsts-end : length s / 124 ≤ i → out ≡ sets out₀ 1 whole
-    unfolding firstRecords flat
-    firsts-end g = along-end settlementLen s (λ (es : List (List ℕ)). sets out at (flat (firstRecords h b es))) (sets out₀ 1 whole) from i (c .writes) g
+    unfolding firstRecords flatten
+    firsts-end g = along-end settlementLen s (λ (es : List (List ℕ)). sets out at (flatten (firstRecords h b es))) (sets out₀ 1 whole) from i (c .writes) g
 
     module _ (k : validHashLen h ≡ true) (g : i < length s / 124) where
       -- the TLC is whole
@@ -240,34 +251,30 @@ module _ (h : ℕ) (b : Bool) (s out₀ : List ℕ) where
       firsts-here = first-length h b (part s from 124) k (part-length s from 124 firsts-from)
 
       -- the record and those behind it, by their length
-      more : (es : List (List ℕ)) → at + length (flat (firstRecords h b (part s from 124 ∷ es))) ≡ at + recordLen h + length (flat (firstRecords h b es))
-      unfolding firstRecords flat
-      more es = omega (arith, length-append (firstRecord h b (part s from 124)) (flat (firstRecords h b es)), firsts-here)
+      more : (es : List (List ℕ)) → at + length (flatten (firstRecords h b (part s from 124 ∷ es))) ≡ at + recordLen h + length (flatten (firstRecords h b es))
+      unfolding firstRecords flatten
+      more es = omega (arith, length-append (firstRecord h b (part s from 124)) (flatten (firstRecords h b es)), firsts-here)
 
       -- there is room for it
       pub firsts-room : at + recordLen h ≤ 1 + length whole
       firsts-room =
-          let e = along-cons settlementLen s (λ (es : List (List ℕ)). at + length (flat (firstRecords h b es))) (1 + length whole) from i (c .ends) g in
+          let e = along-cons settlementLen s (λ (es : List (List ℕ)). at + length (flatten (firstRecords h b es))) (1 + length whole) from i (c .ends) g in
           omega (arith, e, more (drop (i + 1) (entries settlementLen s)))
 
       -- one record more
       pub firsts-next : (out′ : List ℕ) → out′ ≡ sets out at (firstRecord h b (part s from 124)) → Firsts out′ (from + 124) (at + recordLen h) (i + 1)
-      unfolding firstRecords flat
+      unfolding firstRecords flatten
       firsts-next out′ d = record {
         valid = valid-next s from i (c .valid) g;
         same = ap length d ∙ length-sets out at (firstRecord h b (part s from 124)) ∙ c .same;
-        ends = along-next settlementLen s _ _ from i (c .ends) g (λ (es : List (List ℕ)). at + recordLen h + length (flat (firstRecords h b es))) more;
+        ends = along-next settlementLen s _ _ from i (c .ends) g (λ (es : List (List ℕ)). at + recordLen h + length (flatten (firstRecords h b es))) more;
         writes =
-            along-next settlementLen s _ _ from i (c .writes) g (λ (es : List (List ℕ)). sets out′ (at + recordLen h) (flat (firstRecords h b es)))
+            along-next settlementLen s _ _ from i (c .writes) g (λ (es : List (List ℕ)). sets out′ (at + recordLen h) (flatten (firstRecords h b es)))
             (λ es.
-            sets-append (firstRecord h b (part s from 124)) (flat (firstRecords h b es)) out at
-            ∙ ap (λ (j : ℕ). sets (sets out at (firstRecord h b (part s from 124))) (at + j) (flat (firstRecords h b es))) firsts-here
-            ∙ ap (λ (o : List ℕ). sets o (at + recordLen h) (flat (firstRecords h b es))) (sym d));
+            sets-append (firstRecord h b (part s from 124)) (flatten (firstRecords h b es)) out at
+            ∙ ap (λ (j : ℕ). sets (sets out at (firstRecord h b (part s from 124))) (at + j) (flatten (firstRecords h b es))) firsts-here
+            ∙ ap (λ (o : List ℕ). sets o (at + recordLen h) (flatten (firstRecords h b es))) (sym d));
       }
-
--- stores leave a list as long as it is
-pub still-long : (o v o′ : List ℕ) (n : ℕ) → o′ ≡ sets o 0 v → length o ≡ n → n ≡ length o′
-still-long o v o′ n e f = sym (ap length e ∙ length-sets o 0 v ∙ f)
 
 -- ---- the same records as those of a tracked list
 
@@ -282,22 +289,20 @@ module _ (h : ℕ) (b : Bool) (s w : List ℕ) where
       (λ e. ne (omega (arith, e, firsts-count h b (entries settlementLen s), entries-length settlementLen s, tlcs-length h w)))
 
   -- The loop over both: whether the rests are the same, from here, is whether the wholes are.
-  pub record Sames (buffer : List ℕ) (from at i : ℕ) : Type 0 where
+  pub record Sames (from at i : ℕ) : Type 0 where
     pub valid : Along settlementLen s (all validSettlement) true from i
     pub place : at ≡ i * (98 + h) + 33
-    pub long : length buffer ≡ 97
     pub rest : Along settlementLen s (λ (es : List (List ℕ)). sameLists (firstRecords h b es) (drop i (tlcs h w))) sameAll from i
 
   -- before the first
-  pub sames-start : all validSettlement (entries settlementLen s) ≡ true → (buffer : List ℕ) → length buffer ≡ 97 → Sames buffer 0 33 0
-  sames-start e buffer l = record {
+  pub sames-start : all validSettlement (entries settlementLen s) ≡ true → Sames 0 33 0
+  sames-start e = record {
     valid = valid-start s e;
     place = omega (arith, zero-mul (98 + h));
-    long = l;
     rest = record { low = omega arith; place = omega arith; rest = refl };
   }
 
-  module _ (buffer : List ℕ) (from at i : ℕ) (c : Sames buffer from at i) (n : length s / 124 ≡ length w / (98 + h)) where
+  module _ (from at i : ℕ) (c : Sames from at i) (n : length s / 124 ≡ length w / (98 + h)) where
     -- all were the same
     pub sames-end : length s / 124 ≤ i → true ≡ sameAll
     unfolding firstRecords sameLists
@@ -315,14 +320,10 @@ module _ (h : ℕ) (b : Bool) (s w : List ℕ) where
       pub sames-at : at + (65 + h) ≤ length w
       sames-at = omega (arith, c .place, entry-room (98 + h) w i (omega arith))
 
-      module _ (buffer′ F T : List ℕ) (eb : buffer′ ≡ sets buffer 0 (firstRecord h b (part s from 124))) (eF : F ≡ part buffer′ 0 (65 + h)) (eT : T ≡ part w at (65 + h)) where
+      module _ (t o F T : List ℕ) (et : t ≡ part s from 124) (eo : o ≡ sets (replicate 97 0) 0 (firstRecord h b t)) (eF : F ≡ part o 0 (65 + h)) (eT : T ≡ part w at (65 + h)) where
         -- the record is read back
         back : F ≡ firstRecord h b (part s from 124)
-        back =
-            let l = first-length h b (part s from 124) k (part-length s from 124 sames-from) in
-            eF
-            ∙ ap (λ (o : List ℕ). part o 0 (65 + h)) eb
-            ∙ sets-back buffer (firstRecord h b (part s from 124)) 0 (65 + h) (sym l) (omega (arith, l, c .long, hash-len-small h k))
+        back = eF ∙ back-here s from i (c .valid) g h b k t o et eo (65 + h) refl
 
         -- and compared with the tracked one
         step : (es : List (List ℕ)) → sameLists (firstRecords h b (part s from 124 ∷ es)) (drop i (tlcs h w))
@@ -338,11 +339,10 @@ module _ (h : ℕ) (b : Bool) (s w : List ℕ) where
         sames-differ e = along-stop settlementLen s _ sameAll from i (c .rest) g false (λ es. step es ∙ rw e)
 
         -- two that do not
-        pub sames-next : same F T ≡ true → Sames buffer′ (from + 124) (at + (98 + h)) (i + 1)
+        pub sames-next : same F T ≡ true → Sames (from + 124) (at + (98 + h)) (i + 1)
         sames-next e = record {
           valid = valid-next s from i (c .valid) g;
           place = omega (arith, c .place, ap (λ (j : ℕ). j * (98 + h)) (add-one i), suc-mul i (98 + h));
-          long = ap length eb ∙ length-sets buffer 0 (firstRecord h b (part s from 124)) ∙ c .long;
           rest = along-next settlementLen s _ sameAll from i (c .rest) g (λ (es : List (List ℕ)). sameLists (firstRecords h b es) (drop (i + 1) (tlcs h w))) (λ es. step es ∙ rw e);
         }
 
@@ -394,7 +394,7 @@ module _ (h : ℕ) (b : Bool) (d : SettlementData) (out : List ℕ) where
         data-small = omega (arith, hash-len-small h k, mul-le-mul-right (recordLen h) n)
 
         -- so many
-        pub data-flat : length (flat (firstRecords h b (entries settlementLen (d .tlcs)))) ≡ length (d .tlcs) / 124 * recordLen h
+        pub data-flat : length (flatten (firstRecords h b (entries settlementLen (d .tlcs)))) ≡ length (d .tlcs) / 124 * recordLen h
         data-flat = firsts-flat h b k (d .tlcs)
 
         -- two shares of 36 bytes
@@ -422,7 +422,7 @@ module _ (h : ℕ) (b : Bool) (d : SettlementData) (out : List ℕ) where
         pub data-puts : 73 + length (d .tlcs) / 124 * recordLen h ≤ length out → (o₁ o₂ o₃ A B : List ℕ)
             → A ≡ cond b (shareBytes (d .remoteKey) (d .remoteAmount)) (shareBytes (d .localKey) (d .localAmount))
             → B ≡ cond b (shareBytes (d .localKey) (d .localAmount)) (shareBytes (d .remoteKey) (d .remoteAmount))
-            → o₁ ≡ sets (set out 0 (length (d .tlcs) / 124)) 1 (flat (firstRecords h b (entries settlementLen (d .tlcs))))
+            → o₁ ≡ sets (set out 0 (length (d .tlcs) / 124)) 1 (flatten (firstRecords h b (entries settlementLen (d .tlcs))))
             → o₂ ≡ sets o₁ (73 + length (d .tlcs) / 124 * recordLen h - 72) A → o₃ ≡ sets o₂ (73 + length (d .tlcs) / 124 * recordLen h - 36) B
             → (written·.Bytes (73 + length (d .tlcs) / 124 * recordLen h) ≡ wroteFirst h b d out .answer) × (o₃ ≡ wroteFirst h b d out .bytes)
         unfolding firstRemote firstLocal firstState wroteFirst
@@ -430,7 +430,7 @@ module _ (h : ℕ) (b : Bool) (d : SettlementData) (out : List ℕ) where
             let rs = firstRecords h b (entries settlementLen (d .tlcs)) in
             let m = length (d .tlcs) / 124 * recordLen h in
             let c : length (d .tlcs) / 124 ≡ length rs = sym (firsts-count h b (entries settlementLen (d .tlcs)) ∙ entries-length settlementLen (d .tlcs)) in
-            let x : 73 + m - 72 ≡ 1 + length (flat rs) = omega (arith, data-flat) in
+            let x : 73 + m - 72 ≡ 1 + length (flatten rs) = omega (arith, data-flat) in
             let y : 73 + m - 36 ≡ 73 + m - 72 + 36 = omega arith in
             let s : o₃ ≡ sets out 0 (firstState h b d) =
             state-puts rs (firstRemote b d) (firstLocal b d) remote-36 local-36 (length (d .tlcs) / 124) (73 + m - 72) out o₁ o₂ o₃ c x e₁

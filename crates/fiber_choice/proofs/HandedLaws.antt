@@ -4,8 +4,8 @@ use Prim.Native.Nat.{ℕ, zero, suc, _+_, _-_, _*_, _/_, _≤_, _<_}
 use native.Mathlib.Nat.{add-zero, suc-mul, mul-le-mul-right, div-mul-le-self}
 use native.Mathlib.Omega.{arith}
 use mathlib.Core.Path.{_≡_, refl, sym, ap, subst, _∙_}
-use mathlib.Core.Bool.{Bool, true, false, cond}
-use mathlib.Core.List.{List, [], _∷_, _++_, append-assoc}
+use mathlib.Core.Bool.{Bool, true, false, cond, _||_}
+use mathlib.Core.List.{List, [], _∷_, _++_, append-assoc, flatten}
 use mathlib.Core.Logic.{_⊎_, inl, inr, ⊎-elim}
 use lib.Dec.{eqb}
 use lib.ListN.{length, getD, take, drop, set, replicate, length-take, length-drop, length-append}
@@ -20,25 +20,27 @@ use Rattle.fiber_types.specs.declared.tlc.TlcRead.the-variants as tlc·
 use Rattle.fiber_types.specs.declared.answer.Written.the-variants as written·
 use Rattle.fiber_types.specs.declared.unlock.Unlock.{Unlock}
 use Rattle.fiber_types.specs.Records.{amountAt, validHashLen, tlcAt, readTlc, witnessLen, unlockBytes, wroteUnlock}
-use Rattle.fiber_types.proofs.RecordsLaws.{tlc-whole, tlc-amount, unlock-written, unlockBytes-length, unlockBytes-byte, unlockBytes-flag, at-least, outcome-room, amount-part}
+use Rattle.fiber_types.proofs.RecordsLaws.{tlc-whole, tlc-amount, unlock-written, unlockBytes-length, unlockBytes-byte, unlockBytes-flag, at-least, outcome-room, amount-part, whole-is}
 use Rattle.fiber_blake2b.specs.Blake2b.{ckbHash}
 use Rattle.fiber_blake2b.proofs.Blake2bLaws.{ckb-length}
 use Rattle.fiber_choice.specs.declared.kinds.Side.the-variants as side·
 use Rattle.fiber_choice.specs.declared.kinds.Way.{Way}
 use Rattle.fiber_choice.specs.declared.kinds.Way.the-variants as way·
+use Rattle.fiber_choice.specs.declared.kinds.Key.{Key}
+use Rattle.fiber_choice.specs.declared.kinds.Delay.{Delay}
 use Rattle.fiber_choice.specs.declared.kinds.Choice.{Choice}
 use Rattle.fiber_choice.specs.declared.kinds.Choice.the-variants as choice·
 use Rattle.fiber_choice.specs.declared.kinds.Plan.{Plan}
-use Rattle.fiber_witness.specs.Witness.{recordLen, records, flat, stateBytes, member, unlockLen, places, unlessCut, readWitness}
+use Rattle.fiber_witness.specs.Witness.{recordLen, chunks, stateBytes, member, unlockLen, places, unlessCut, readWitness}
 use Rattle.fiber_witness.specs.Update.{keep, shareLeft, none, fine, takeUnlocks, updated}
 use Rattle.fiber_witness.specs.inner.Marks.{Marks, noMarks}
-use Rattle.fiber_witness.specs.inner.Strided.{sharePlace, strided, unmarked}
+use Rattle.fiber_witness.specs.inner.Strided.{behindTlcs, strided, unmarked}
 use Rattle.fiber_choice.specs.Entries.{entries, trackedLen, trackedRecords, pairLen, pairPreimage}
 use Rattle.fiber_choice.specs.declared.kinds.ChoiceAnswer.the-variants as answer·
-use Rattle.fiber_choice.specs.HandedOut.{Picked, choiceByte, newArgs, unlockOf, takes, stateAfter, choiceAmount, recordSize, handedOut}
+use Rattle.fiber_choice.specs.HandedOut.{choiceByte, newArgs, unlockOf, takes, stateAfter, choiceAmount, recordSize, handedOut}
 use Rattle.fiber_choice.specs.inner.Plan.{planOf, planAfter, planUnlock, joined, Below, Within}
 use Rattle.fiber_choice.specs.Promises.{PairIn}
-use Rattle.fiber_witness.proofs.WitnessLaws.{Even, even-none, even-more, even-at, flat-even, state-size, places-nil, places-cons, member-none, cut-none, cut-passed}
+use Rattle.fiber_witness.proofs.WitnessLaws.{Even, even-none, even-more, even-at, flatten-even, state-size, places-nil, places-cons, member-none, cut-none, cut-passed}
 use Rattle.fiber_witness.proofs.UpdateLaws.{marks-none, left-length, share-kept, sets-part, rest-room, unlocks-none, unlocks-more, updated-fine}
 use Rattle.fiber_witness.proofs.StridedLaws.{strided-none, strided-more, unmarked-keep}
 use Rattle.fiber_witness.specs.declared.witness.WitnessRead.the-variants as read·
@@ -109,8 +111,8 @@ module _ (h : ℕ) (s : List ℕ) where
 -- ---- lists of records that have r bytes each
 
 -- those of the tracked TLCs
-pub each-tracked : (r m : ℕ) (s : List ℕ) → m * (33 + r) ≤ length s → Even r (trackedRecords (records (33 + r) m s))
-unfolding trackedRecords records
+pub each-tracked : (r m : ℕ) (s : List ℕ) → m * (33 + r) ≤ length s → Even r (trackedRecords (chunks (33 + r) m s))
+unfolding trackedRecords chunks
 each-tracked r zero s h = even-none
 each-tracked r (suc m) s h =
     let e : length (drop 33 (take (33 + r) s)) ≡ r = omega (arith, length-drop 33 (take (33 + r) s), length-take (33 + r) s, suc-mul m (33 + r)) in
@@ -118,10 +120,10 @@ each-tracked r (suc m) s h =
     (each-tracked r m (drop (33 + r) s) (omega (arith, length-drop (33 + r) s, suc-mul m (33 + r))))
 
 -- so many bytes
-pub tlcs-flat : (h : ℕ) (s : List ℕ) → length (flat (tlcs h s)) ≡ length s / (98 + h) * recordLen h
+pub tlcs-flat : (h : ℕ) (s : List ℕ) → length (flatten (tlcs h s)) ≡ length s / (98 + h) * recordLen h
 unfolding entries
 tlcs-flat h s =
-    flat-even (each-tracked (recordLen h) (length s / trackedLen h) s (div-mul-le-self (length s) (trackedLen h)))
+    flatten-even (each-tracked (recordLen h) (length s / trackedLen h) s (div-mul-le-self (length s) (trackedLen h)))
     ∙ ap (λ (k : ℕ). k * recordLen h) (tlcs-length h s)
 
 -- ---- written from the tracked list
@@ -133,8 +135,8 @@ keep-all i [] = refl
 keep-all i (r ∷ rs) = ap (λ (l : List (List ℕ)). r ∷ l) (keep-all (i + 1) rs)
 
 -- a tracked list has its records behind 33 bytes of each entry
-strided-tracked : (r m : ℕ) (s : List ℕ) (from : ℕ) → strided r (33 + r) m s (from + 33) ≡ trackedRecords (records (33 + r) m (drop from s))
-unfolding trackedRecords records
+strided-tracked : (r m : ℕ) (s : List ℕ) (from : ℕ) → strided r (33 + r) m s (from + 33) ≡ trackedRecords (chunks (33 + r) m (drop from s))
+unfolding trackedRecords chunks
 strided-tracked r zero s from = strided-none r (33 + r) s (from + 33)
 strided-tracked r (suc m) s from =
     let e : from + 33 + (33 + r) ≡ from + (33 + r) + 33 = omega arith in
@@ -184,21 +186,21 @@ module _ (k : ℕ) where
   keep-but i (r ∷ rs) h g = go (eqb i k) refl (λ f. keep-but (i + 1) rs f (omega arith))
     where
       go : (b : Bool) → eqb i k ≡ b → (i + 1 ≤ k → suc (length (keep (k ∷ []) (i + 1) rs)) ≡ length rs)
-          → suc (length (cond (cond b true false) (keep (k ∷ []) (i + 1) rs) (r ∷ keep (k ∷ []) (i + 1) rs))) ≡ suc (length rs)
+          → suc (length (cond (b || false) (keep (k ∷ []) (i + 1) rs) (r ∷ keep (k ∷ []) (i + 1) rs))) ≡ suc (length rs)
       go true e f = ap (λ (l : List (List ℕ)). suc (length l)) (keep-past (i + 1) rs (inl (omega (arith, eqb-true i k e))))
       go false e f =
           let n = eqb-false i k e in
           ap suc (f (omega (arith, n)))
 
 -- no more bytes are kept than there are
-pub keep-small : (s : List ℕ) (i : ℕ) (rs : List (List ℕ)) → length (flat (keep s i rs)) ≤ length (flat rs)
-unfolding keep flat
+pub keep-small : (s : List ℕ) (i : ℕ) (rs : List (List ℕ)) → length (flatten (keep s i rs)) ≤ length (flatten rs)
+unfolding keep flatten
 keep-small s i [] = omega arith
 keep-small s i (r ∷ rs) = go (member i s) (keep-small s (i + 1) rs)
   where
-    go : (b : Bool) → length (flat (keep s (i + 1) rs)) ≤ length (flat rs) → length (flat (cond b (keep s (i + 1) rs) (r ∷ keep s (i + 1) rs))) ≤ length (r ++ flat rs)
-    go true h = omega (arith, length-append r (flat rs))
-    go false h = omega (arith, length-append r (flat rs), length-append r (flat (keep s (i + 1) rs)))
+    go : (b : Bool) → length (flatten (keep s (i + 1) rs)) ≤ length (flatten rs) → length (flatten (cond b (keep s (i + 1) rs) (r ∷ keep s (i + 1) rs))) ≤ length (r ++ flatten rs)
+    go true h = omega (arith, length-append r (flatten rs))
+    go false h = omega (arith, length-append r (flatten rs), length-append r (flatten (keep s (i + 1) rs)))
 
 -- ---- the numbers of a plan
 
@@ -216,22 +218,13 @@ module _ (h : ℕ) (s : List ℕ) (place : ℕ) (way : Way) (c : Choice) (b : Be
 
 module _ (h : ℕ) (s : List ℕ) (i : ℕ) (k : validHashLen h ≡ true) (g : i < length s / (98 + h)) (x : TlcRead) (f : x ≡ readTlc h s (i * (98 + h) + 33)) where
   -- its record is whole
-  place-whole : x ≡ tlc·.Record (tlcAt h s (i * (98 + h) + 33))
+  pub place-whole : x ≡ tlc·.Whole (tlcAt h s (i * (98 + h) + 33))
   place-whole = f ∙ tlc-whole h s (i * (98 + h) + 33) k (omega (arith, entry-room (98 + h) s i g))
 
   -- what is read is its amount
-  pub place-amount : (t : Tlc) → x ≡ tlc·.Record t → t .amount ≡ amountAt (getD (tlcs h s) i []) 1
+  pub place-amount : (t : Tlc) → x ≡ tlc·.Whole t → t .amount ≡ amountAt (getD (tlcs h s) i []) 1
   place-amount t e =
-      let w = place-whole in
-      let m : t ≡ tlcAt h s (i * (98 + h) + 33) = cc in
-      rw (m, tlc-amount h s (i * (98 + h) + 33), tlc-at h s i g) (sym (amount-part s (i * (98 + h) + 33) (recordLen h) 1 (omega arith)))
-
-  -- so it is never turned down
-  pub place-never : {A : Type 0} (number place : ℕ) → x ≡ tlc·.Refused number place → A
-  place-never number place e =
-      let w = place-whole in
-      let z : _≡_ {A = ℕ} 0 1 = cc in
-      absurd (omega arith)
+      rw (whole-is place-whole t e, tlc-amount h s (i * (98 + h) + 33), tlc-at h s i g) (sym (amount-part s (i * (98 + h) + 33) (recordLen h) 1 (omega arith)))
 
 -- with a flag the first of two holds
 pub flagged : {A : Type 0} {b : Bool} → A ⊎ (b ≡ false) → b ≡ true → A
@@ -247,7 +240,7 @@ keep-count k n c rs e (inr x) = (omega (arith, x .1, ap length (keep-past k 0 rs
 
 module _ (rs : List (List ℕ)) (remote local : List ℕ) (p : Plan) where
   -- it is no longer than the state before it
-  pub after-size : length remote ≡ 36 → length local ≡ 36 → (length (planAfter rs remote local p) ≤ 73 + length (flat rs)) × (73 ≤ length (planAfter rs remote local p))
+  pub after-size : length remote ≡ 36 → length local ≡ 36 → (length (planAfter rs remote local p) ≤ 73 + length (flatten rs)) × (73 ≤ length (planAfter rs remote local p))
   unfolding planAfter
   after-size e f =
       let z = state-size (keep (p .skip ∷ []) 0 rs) (shareLeft (p .remote) remote) (shareLeft (p .local) local) (left-length (p .remote) remote e) (left-length (p .local) local f) in
@@ -255,9 +248,9 @@ module _ (rs : List (List ℕ)) (remote local : List ℕ) (p : Plan) where
 
 module _ (h : ℕ) (s remote local : List ℕ) (p : Plan) (marks : List Bool) (m : Marks marks (p .skip ∷ [])) where
   -- what `put_state` is asked for
-  pub after-asks : (c : ℕ) (out : List ℕ) → 73 + length (flat (tlcs h s)) ≤ length out
+  pub after-asks : (c : ℕ) (out : List ℕ) → 73 + length (flatten (tlcs h s)) ≤ length out
       → ((p .skip < length s / (98 + h)) × (c ≡ length s / (98 + h) - 1)) ⊎ ((length s / (98 + h) ≤ p .skip) × (c ≡ length s / (98 + h)))
-      → (c ≡ length (others h s marks)) × (73 + length (flat (others h s marks)) ≤ length out)
+      → (c ≡ length (others h s marks)) × (73 + length (flatten (others h s marks)) ≤ length out)
   after-asks c out room k =
       rw (others-but h s marks (p .skip) m)
       (keep-count (p .skip) _ c (tlcs h s) (sym (tlcs-length h s)) k .0, omega (arith, keep-small (p .skip ∷ []) 0 (tlcs h s)))
@@ -291,19 +284,19 @@ module _ (preimages : List ℕ) (p : Plan) (out out′ x : List ℕ) (r : 99 ≤
       ∙ ap (λ (y : List ℕ). sets out 0 (unlockBytes (record { byte = p .byte; flag = p .flag }) (replicate 65 0) y)) (rw (e, d))
 
   -- with the second half of its pair
-  pub unlock-paired : p .flag ≡ true → 64 * (p .pair) + 64 ≤ length preimages → x ≡ part preimages (64 * (p .pair) + 32) 32
+  pub unlock-paired : p .flag ≡ true → 64 * (p .«pair_place») + 64 ≤ length preimages → x ≡ part preimages (64 * (p .«pair_place») + 32) 32
       → out′ ≡ sets out 0 (planUnlock (entries pairLen preimages) p)
   unfolding planUnlock
   unlock-paired e g d =
       let n : 99 ≡ witnessLen (p .flag) = rw e in
-      let l : length x ≡ 99 - 67 = ap length d ∙ part-length preimages (64 * (p .pair) + 32) 32 (omega arith) in
-      let f : p .pair < length preimages / 64 = omega arith in
-      let k : 64 * (p .pair) + 32 ≡ p .pair * 64 + 32 = omega arith in
-      let y : x ≡ part (getD (entries pairLen preimages) (p .pair) []) 32 32 =
+      let l : length x ≡ 99 - 67 = ap length d ∙ part-length preimages (64 * (p .«pair_place») + 32) 32 (omega arith) in
+      let f : p .«pair_place» < length preimages / 64 = omega arith in
+      let k : 64 * (p .«pair_place») + 32 ≡ p .«pair_place» * 64 + 32 = omega arith in
+      let y : x ≡ part (getD (entries pairLen preimages) (p .«pair_place») []) 32 32 =
       d
       ∙ ap (λ (j : ℕ). part preimages j 32) k
-      ∙ sym (part-part preimages (p .pair * 64) 64 32 32 (omega arith))
-      ∙ ap (λ (t : List ℕ). part t 32 32) (sym (entry-at 64 preimages (p .pair) f)) in
+      ∙ sym (part-part preimages (p .«pair_place» * 64) 64 32 32 (omega arith))
+      ∙ ap (λ (t : List ℕ). part t 32 32) (sym (entry-at 64 preimages (p .«pair_place») f)) in
       w
       ∙ sym (unlock-written (record { byte = p .byte; flag = p .flag }) (replicate 65 0) x out 99 n refl l r _ refl .1)
       ∙ ap (λ (z : List ℕ). sets out 0 (unlockBytes (record { byte = p .byte; flag = p .flag }) (replicate 65 0) z)) (rw e y)
@@ -363,7 +356,7 @@ module _ (h : ℕ) (s : List ℕ) (f : length (entries (trackedLen h) s) ≤ 254
 
 module _ (h : ℕ) (args s preimages remote local : List ℕ) (p : Plan)
     (a : 36 ≤ length args) (d : length remote ≡ 36) (f : length local ≡ 36)
-    (g : (64 * (p .pair) + 64 ≤ length preimages) ⊎ (p .flag ≡ false)) where
+    (g : (64 * (p .«pair_place») + 64 ≤ length preimages) ⊎ (p .flag ≡ false)) where
   abbrev unlocks : List ℕ
   unlocks = planUnlock (entries pairLen preimages) p
 
@@ -379,13 +372,13 @@ module _ (h : ℕ) (args s preimages remote local : List ℕ) (p : Plan)
   unlock-size = go (p .flag) refl
     where
       go : (b : Bool) → p .flag ≡ b
-          → length (unlockBytes (record { byte = p .byte; flag = b }) (replicate 65 0) (cond b (part (getD (entries pairLen preimages) (p .pair) []) 32 32) [])) ≡ witnessLen b
+          → length (unlockBytes (record { byte = p .byte; flag = b }) (replicate 65 0) (cond b (part (getD (entries pairLen preimages) (p .«pair_place») []) 32 32) [])) ≡ witnessLen b
       go true e =
           let q = flagged g e in
-          let k : p .pair < length preimages / 64 = omega arith in
-          let l = part-length (part preimages (p .pair * 64) 64) 32 32 (omega (arith, part-length preimages (p .pair * 64) 64 (omega arith))) in
-          unlockBytes-length (record { byte = p .byte; flag = true }) (replicate 65 0) (part (getD (entries pairLen preimages) (p .pair) []) 32 32)
-          ∙ omega (arith, l, ap (λ (t : List ℕ). length (part t 32 32)) (entry-at 64 preimages (p .pair) k))
+          let k : p .«pair_place» < length preimages / 64 = omega arith in
+          let l = part-length (part preimages (p .«pair_place» * 64) 64) 32 32 (omega (arith, part-length preimages (p .«pair_place» * 64) 64 (omega arith))) in
+          unlockBytes-length (record { byte = p .byte; flag = true }) (replicate 65 0) (part (getD (entries pairLen preimages) (p .«pair_place») []) 32 32)
+          ∙ omega (arith, l, ap (λ (t : List ℕ). length (part t 32 32)) (entry-at 64 preimages (p .«pair_place») k))
       go false e = unlockBytes-length (record { byte = p .byte; flag = false }) (replicate 65 0) []
 
   -- the new args
@@ -407,7 +400,7 @@ module _ (h : ℕ) (args s preimages remote local : List ℕ) (p : Plan)
 
   -- and all
   pub joined-size : length (joined args (entries (trackedLen h) s) (entries pairLen preimages) remote local p)
-      ≡ witnessLen (p .flag) + (73 + length (flat (tlcs h s))) + (57 + (length args - 57))
+      ≡ witnessLen (p .flag) + (73 + length (flatten (tlcs h s))) + (57 + (length args - 57))
   unfolding joined
   joined-size =
       omega (
@@ -427,12 +420,12 @@ module _ (h : ℕ) (args s preimages remote local : List ℕ) (p : Plan)
 
     module _ (o₁ : List ℕ) (e₁ : o₁ ≡ sets out 0 unlocks) where
       -- for a state behind it
-      pub after-room : at + (73 + length (flat (tlcs h s))) ≤ length o₁
+      pub after-room : at + (73 + length (flatten (tlcs h s))) ≤ length o₁
       after-room = omega (arith, r, joined-size, ap length e₁, length-sets out 0 unlocks)
 
       -- also in the part of the output that begins there
-      pub part-room : 73 + length (flat (tlcs h s)) ≤ length (take (length o₁ - at) (drop at o₁))
-      part-room = rest-room o₁ at (73 + length (flat (tlcs h s))) after-room
+      pub part-room : 73 + length (flatten (tlcs h s)) ≤ length (take (length o₁ - at) (drop at o₁))
+      part-room = rest-room o₁ at (73 + length (flatten (tlcs h s))) after-room
 
       -- the state after it was written to that part
       module _ (y₂ : List ℕ) (e₂ : y₂ ≡ sets (take (length o₁ - at) (drop at o₁)) 0 after) where
@@ -443,13 +436,13 @@ module _ (h : ℕ) (args s preimages remote local : List ℕ) (p : Plan)
         o₂-is = sets-part o₁ at after y₂ (omega (arith, after-room)) e₂
 
         -- there is room for the other one
-        pub before-room : at + (73 + length (flat (tlcs h s))) ≤ length o₂
+        pub before-room : at + (73 + length (flatten (tlcs h s))) ≤ length o₂
         before-room = omega (arith, after-room, ap length o₂-is, length-sets o₁ at after)
 
         module _ (marks : List Bool) (n : marks ≡ noMarks) where
           -- what `put_state` is asked for
-          pub before-asks : (length s / (98 + h) ≡ length (others h s marks)) × (73 + length (flat (others h s marks)) ≤ length (take (length o₂ - at) (drop at o₂)))
-          before-asks = rw (others-all h s marks n) (sym (tlcs-length h s), rest-room o₂ at (73 + length (flat (tlcs h s))) before-room)
+          pub before-asks : (length s / (98 + h) ≡ length (others h s marks)) × (73 + length (flatten (others h s marks)) ≤ length (take (length o₂ - at) (drop at o₂)))
+          before-asks = rw (others-all h s marks n) (sym (tlcs-length h s), rest-room o₂ at (73 + length (flatten (tlcs h s))) before-room)
 
           -- what it leaves
           module _ (size : ℕ) (y₃ : List ℕ)
@@ -462,7 +455,7 @@ module _ (h : ℕ) (args s preimages remote local : List ℕ) (p : Plan)
             all : (size ≡ length before) × (y₃ ≡ sets (take (length o₂ - at) (drop at o₂)) 0 before)
             all = rw (others-all h s marks n, share-kept remote, share-kept local) at w₃
 
-            size-is : size ≡ 73 + length (flat (tlcs h s))
+            size-is : size ≡ 73 + length (flatten (tlcs h s))
             size-is = all .0 ∙ state-size (tlcs h s) remote local d f
 
             o₃-is : o₃ ≡ sets o₂ at before
@@ -513,20 +506,20 @@ new-length n k (inr x) = omega (arith, x .0, x .1)
 
 -- its byte is a byte
 pub plan-byte : (n : ℕ) (c : Choice) → n ≤ 254 → Below n c → planOf n c .byte ≤ 255
-unfolding planOf Below
+unfolding planOf choiceByte Below
 plan-byte n (choice·.Share side·.Remote) f b = omega arith
 plan-byte n (choice·.Share side·.Local) f b = omega arith
 plan-byte n (choice·.Tlc place way·.Timeout) f b = omega arith
-plan-byte n (choice·.Tlc place (way·.Preimage pair)) f b = omega arith
+plan-byte n (choice·.Tlc place (way·.Preimage pairPlace)) f b = omega arith
 
 -- its pair is whole, where it counts
 pub plan-pair : (n : ℕ) (preimages : List ℕ) (c : Choice) → PairIn (length (entries pairLen preimages)) c
-    → (64 * (planOf n c .pair) + 64 ≤ length preimages) ⊎ (planOf n c .flag ≡ false)
+    → (64 * (planOf n c .«pair_place») + 64 ≤ length preimages) ⊎ (planOf n c .flag ≡ false)
 unfolding planOf
 plan-pair n preimages (choice·.Share side·.Remote) b = inr refl
 plan-pair n preimages (choice·.Share side·.Local) b = inr refl
 plan-pair n preimages (choice·.Tlc place way·.Timeout) b = inr refl
-plan-pair n preimages (choice·.Tlc place (way·.Preimage pair)) b = inl (omega (arith, entry-room 64 preimages pair (omega (arith, entries-length 64 preimages))))
+plan-pair n preimages (choice·.Tlc place (way·.Preimage pairPlace)) b = inl (omega (arith, entry-room 64 preimages pairPlace (omega (arith, entries-length 64 preimages))))
 
 -- the TLC that it settles has a mark
 pub plan-skip : (n : ℕ) (c : Choice) → n ≤ 254 → Below n c → planOf n c .skip ≤ 255
@@ -534,7 +527,7 @@ unfolding planOf Below
 plan-skip n (choice·.Share side·.Remote) f b = omega arith
 plan-skip n (choice·.Share side·.Local) f b = omega arith
 plan-skip n (choice·.Tlc place way·.Timeout) f b = omega arith
-plan-skip n (choice·.Tlc place (way·.Preimage pair)) f b = omega arith
+plan-skip n (choice·.Tlc place (way·.Preimage pairPlace)) f b = omega arith
 
 -- its unlock is the choice's
 plan-unlock : (n : ℕ) (ps : List (List ℕ)) (c : Choice) → unlockOf ps c ≡ planUnlock ps (planOf n c)
@@ -542,7 +535,7 @@ unfolding planOf planUnlock unlockOf choiceByte
 plan-unlock n ps (choice·.Share side·.Remote) = refl
 plan-unlock n ps (choice·.Share side·.Local) = refl
 plan-unlock n ps (choice·.Tlc place way·.Timeout) = refl
-plan-unlock n ps (choice·.Tlc place (way·.Preimage pair)) = refl
+plan-unlock n ps (choice·.Tlc place (way·.Preimage pairPlace)) = refl
 
 -- so is the state after it
 plan-after : (n : ℕ) (rs : List (List ℕ)) (remote local : List ℕ) (c : Choice) → n ≡ length rs → stateAfter rs remote local (takes c) ≡ planAfter rs remote local (planOf n c)
@@ -552,13 +545,13 @@ plan-after n rs remote local (choice·.Share side·.Remote) e =
 plan-after n rs remote local (choice·.Share side·.Local) e =
     ap (λ (l : List (List ℕ)). stateBytes l (shareLeft false remote) (shareLeft true local)) (keep-all 0 rs ∙ sym (keep-past n 0 rs (inr (omega arith))))
 plan-after n rs remote local (choice·.Tlc place way·.Timeout) e = refl
-plan-after n rs remote local (choice·.Tlc place (way·.Preimage pair)) e = refl
+plan-after n rs remote local (choice·.Tlc place (way·.Preimage pairPlace)) e = refl
 
 -- ---- what is handed out
 
-module _ (h : ℕ) (args s preimages out : List ℕ) (q : Picked) (p : Plan) (e : p ≡ planOf (length s / (98 + h)) (q .choice))
-    (a : 36 ≤ length args) (d : length (q .remote) ≡ 36) (f : length (q .local) ≡ 36)
-    (b : PairIn (length (entries pairLen preimages)) (q .choice)) where
+module _ (h : ℕ) (args s preimages out : List ℕ) (remote local : List ℕ) (choice : Choice) (p : Plan) (e : p ≡ planOf (length s / (98 + h)) choice)
+    (a : 36 ≤ length args) (d : length remote ≡ 36) (f : length local ≡ 36)
+    (b : PairIn (length (entries pairLen preimages)) choice) where
   abbrev es : List (List ℕ)
   es = entries (trackedLen h) s
 
@@ -566,38 +559,38 @@ module _ (h : ℕ) (args s preimages out : List ℕ) (q : Picked) (p : Plan) (e 
   ps = entries pairLen preimages
 
   -- what `put_joined` wants of the plan
-  pub planned : length es ≤ 254 → Below (length es) (q .choice)
-      → (p .byte ≤ 255) × (((64 * (p .pair) + 64 ≤ length preimages) ⊎ (p .flag ≡ false)) × (p .skip ≤ 255))
+  pub planned : length es ≤ 254 → Below (length es) choice
+      → (p .byte ≤ 255) × (((64 * (p .«pair_place») + 64 ≤ length preimages) ⊎ (p .flag ≡ false)) × (p .skip ≤ 255))
   planned g w =
       let n : length es ≡ length s / (98 + h) = omega (arith, tracked-length es, tlcs-length h s) in
       let b′ = rw n at w in
       rw e
-      (plan-byte (length s / (98 + h)) (q .choice) (few-tracked h s g) b′, (plan-pair (length s / (98 + h)) preimages (q .choice) b, plan-skip (length s / (98 + h)) (q .choice) (few-tracked h s g) b′))
+      (plan-byte (length s / (98 + h)) choice (few-tracked h s g) b′, (plan-pair (length s / (98 + h)) preimages choice b, plan-skip (length s / (98 + h)) choice (few-tracked h s g) b′))
 
   -- its pair is whole
-  pub planned-pair : (64 * (p .pair) + 64 ≤ length preimages) ⊎ (p .flag ≡ false)
-  planned-pair = rw e (plan-pair (length s / (98 + h)) preimages (q .choice) b)
+  pub planned-pair : (64 * (p .«pair_place») + 64 ≤ length preimages) ⊎ (p .flag ≡ false)
+  planned-pair = rw e (plan-pair (length s / (98 + h)) preimages choice b)
 
-  unlock-same : unlockOf ps (q .choice) ≡ planUnlock ps p
-  unlock-same = rw e (plan-unlock (length s / (98 + h)) ps (q .choice))
+  unlock-same : unlockOf ps choice ≡ planUnlock ps p
+  unlock-same = rw e (plan-unlock (length s / (98 + h)) ps choice)
 
-  after-same : stateAfter (tlcs h s) (q .remote) (q .local) (takes (q .choice)) ≡ planAfter (tlcs h s) (q .remote) (q .local) p
-  after-same = rw e (plan-after (length s / (98 + h)) (tlcs h s) (q .remote) (q .local) (q .choice) (sym (tlcs-length h s)))
+  after-same : stateAfter (tlcs h s) remote local (takes choice) ≡ planAfter (tlcs h s) remote local p
+  after-same = rw e (plan-after (length s / (98 + h)) (tlcs h s) remote local choice (sym (tlcs-length h s)))
 
   -- the three parts are those of the plan
-  whole : unlockOf ps (q .choice) ++ stateBytes (tlcs h s) (q .remote) (q .local) ++ newArgs args (stateAfter (tlcs h s) (q .remote) (q .local) (takes (q .choice)))
-      ≡ joined args es ps (q .remote) (q .local) p
+  whole : unlockOf ps choice ++ stateBytes (tlcs h s) remote local ++ newArgs args (stateAfter (tlcs h s) remote local (takes choice))
+      ≡ joined args es ps remote local p
   unfolding joined
   whole = rw (unlock-same, after-same)
 
-  module _ (u k : ℕ) (eu : u ≡ witnessLen (p .flag)) (ek : k ≡ 57 + (length args - 57)) where
+  module _ (key : Key) (delay : Delay) (place u k : ℕ) (eu : u ≡ witnessLen (p .flag)) (ek : k ≡ 57 + (length args - 57)) where
     -- their length, as the code has it
-    pub handed-size : length (joined args es ps (q .remote) (q .local) p) ≡ u + (73 + length s / (98 + h) * recordLen h) + k
-    handed-size = omega (arith, joined-size h args s preimages (q .remote) (q .local) p a d f planned-pair, tlcs-flat h s)
+    pub handed-size : length (joined args es ps remote local p) ≡ u + (73 + length s / (98 + h) * recordLen h) + k
+    handed-size = omega (arith, joined-size h args s preimages remote local p a d f planned-pair, tlcs-flat h s)
 
     -- 13
     pub handed-short : length out < u + (73 + length s / (98 + h) * recordLen h) + k
-        → (answer·.Refused 13 (u + (73 + length s / (98 + h) * recordLen h) + k) ≡ handedOut h args es ps q out .answer) × (out ≡ handedOut h args es ps q out .bytes)
+        → (answer·.Refused 13 (u + (73 + length s / (98 + h) * recordLen h) + k) ≡ handedOut h args es ps remote local choice key delay place out .answer) × (out ≡ handedOut h args es ps remote local choice key delay place out .bytes)
     unfolding handedOut
     handed-short g =
         let t = lt-leb (u + (73 + length s / (98 + h) * recordLen h) + k) (length out) g in
@@ -605,29 +598,29 @@ module _ (h : ℕ) (args s preimages out : List ℕ) (q : Picked) (p : Plan) (e 
 
     -- all is written
     pub handed-whole : u + (73 + length s / (98 + h) * recordLen h) + k ≤ length out
-        → (m : Amount) (l : ℕ) (out′ : List ℕ) → m ≡ choiceAmount (tlcs h s) (q .remote) (q .local) (q .choice) → l ≡ recordSize h (q .choice)
-        → out′ ≡ sets out 0 (joined args es ps (q .remote) (q .local) p)
+        → (m : Amount) (l : ℕ) (out′ : List ℕ) → m ≡ choiceAmount (tlcs h s) remote local choice → l ≡ recordSize h choice
+        → out′ ≡ sets out 0 (joined args es ps remote local p)
         → (answer·.Chosen (record {
-          choice = q .choice;
+          choice = choice;
           amount = m;
-          key = q .key;
-          delay = q .delay;
+          key = key;
+          delay = delay;
           «unlock_len» = u;
           «state_len» = 73 + length s / (98 + h) * recordLen h;
           «args_len» = k;
-          place = q .place;
+          place = place;
           len = l;
         })
-        ≡ handedOut h args es ps q out .answer)
-        × (out′ ≡ handedOut h args es ps q out .bytes)
+        ≡ handedOut h args es ps remote local choice key delay place out .answer)
+        × (out′ ≡ handedOut h args es ps remote local choice key delay place out .bytes)
     unfolding handedOut
     handed-whole g m l out′ em el eo =
         let t = le-leb (u + (73 + length s / (98 + h) * recordLen h) + k) (length out) g in
-        let n₁ : length (unlockOf ps (q .choice)) ≡ u = ap length unlock-same ∙ unlock-size h args s preimages (q .remote) (q .local) p a d f planned-pair ∙ sym eu in
-        let n₂ : length (stateBytes (tlcs h s) (q .remote) (q .local)) ≡ 73 + length s / (98 + h) * recordLen h =
-        state-size (tlcs h s) (q .remote) (q .local) d f ∙ ap (λ (j : ℕ). 73 + j) (tlcs-flat h s) in
-        let n₃ : length (newArgs args (stateAfter (tlcs h s) (q .remote) (q .local) (takes (q .choice)))) ≡ k =
-        new-size h args s preimages (q .remote) (q .local) p a d f planned-pair (stateAfter (tlcs h s) (q .remote) (q .local) (takes (q .choice))) ∙ sym ek in
+        let n₁ : length (unlockOf ps choice) ≡ u = ap length unlock-same ∙ unlock-size h args s preimages remote local p a d f planned-pair ∙ sym eu in
+        let n₂ : length (stateBytes (tlcs h s) remote local) ≡ 73 + length s / (98 + h) * recordLen h =
+        state-size (tlcs h s) remote local d f ∙ ap (λ (j : ℕ). 73 + j) (tlcs-flat h s) in
+        let n₃ : length (newArgs args (stateAfter (tlcs h s) remote local (takes choice))) ≡ k =
+        new-size h args s preimages remote local p a d f planned-pair (stateAfter (tlcs h s) remote local (takes choice)) ∙ sym ek in
         (rw (whole, handed-size, t, n₁, n₂, n₃, em, el), rw (whole, handed-size, t) eo)
 
 -- no unlock makes a state longer
@@ -643,7 +636,7 @@ unfolding planUnlock
 unlock-least pairs c =
     let p = planOf 0 c in
     rw (plan-unlock 0 pairs c)
-    (omega (arith, unlockBytes-length (record { byte = p .byte; flag = p .flag }) (replicate 65 0) (cond (p .flag) (pairPreimage (getD pairs (p .pair) [])) [])))
+    (omega (arith, unlockBytes-length (record { byte = p .byte; flag = p .flag }) (replicate 65 0) (cond (p .flag) (pairPreimage (getD pairs (p .«pair_place») [])) [])))
 
 -- the new args are as long, whatever they hash
 pub new-lengths : (args s t : List ℕ) → length (newArgs args s) ≡ length (newArgs args t)
@@ -674,16 +667,16 @@ pub unlock-whole : (ps : List (List ℕ)) (c : Choice) → Even pairLen ps → P
 unfolding unlockOf choiceByte
 unlock-whole ps (choice·.Share side) a b = unlock-of (record { byte = choiceByte (choice·.Share side); flag = false }) [] refl
 unlock-whole ps (choice·.Tlc place way·.Timeout) a b = unlock-of (record { byte = place; flag = false }) [] refl
-unlock-whole ps (choice·.Tlc place (way·.Preimage pair)) a b =
-    unlock-of (record { byte = place; flag = true }) (pairPreimage (getD ps pair [])) (part-length (getD ps pair []) 32 32 (omega (arith, even-at a pair b)))
+unlock-whole ps (choice·.Tlc place (way·.Preimage pairPlace)) a b =
+    unlock-of (record { byte = place; flag = true }) (pairPreimage (getD ps pairPlace [])) (part-length (getD ps pairPlace []) 32 32 (omega (arith, even-at a pairPlace b)))
 
 -- one unlock of a choice takes what the choice takes
-unlocks-choice : (n share : ℕ) (w : List ℕ) (at : ℕ) (c : Choice) → n ≤ 254 → Below n c → getD w at 0 ≡ choiceByte c
-    → takeUnlocks n share w none (at ∷ []) ≡ fine n share (takes c)
+unlocks-choice : (n sharePlace : ℕ) (w : List ℕ) (at : ℕ) (c : Choice) → n ≤ 254 → Below n c → getD w at 0 ≡ choiceByte c
+    → takeUnlocks n sharePlace w none (at ∷ []) ≡ fine n sharePlace (takes c)
 unfolding choiceByte takes Below
-unlocks-choice n share w at (choice·.Share side·.Local) g b e = rw (unlocks-more, e, unlocks-none)
-unlocks-choice n share w at (choice·.Share side·.Remote) g b e = rw (unlocks-more, e, unlocks-none)
-unlocks-choice n share w at (choice·.Tlc place way) g b e =
+unlocks-choice n sharePlace w at (choice·.Share side·.Local) g b e = rw (unlocks-more, e, unlocks-none)
+unlocks-choice n sharePlace w at (choice·.Share side·.Remote) g b e = rw (unlocks-more, e, unlocks-none)
+unlocks-choice n sharePlace w at (choice·.Tlc place way) g b e =
     simp (unlocks-more, unlocks-none, e, member-none, ne-eqb place 255 (λ z. omega arith), ne-eqb place 254 (λ z. omega arith), lt-ltb place n b)
 
 -- The update takes an unlock that is made of a choice, over the state that it was made for, whatever the count byte in front: it answers
@@ -721,18 +714,18 @@ module _ {h : ℕ} {tlcs : List (List ℕ)} {remote local : List ℕ} (ok : Soun
       ∙ ap (λ (ps : List ℕ). start ∷ ps) (places-nil w (start + unlockLen w start) (omega (arith, w-length, w-len)))
 
   -- it is read whole
-  w-read : readWitness h w ≡ read·.Whole (length tlcs) 1 (sharePlace h (length tlcs)) start
+  w-read : readWitness h w ≡ read·.Whole (length tlcs) 1 (behindTlcs h (length tlcs)) start
   w-read =
       read-sound ok count u
-      ∙ ap (λ (ps : List ℕ). unlessCut w ps (read·.Refused 4) (read·.Whole (length tlcs) (length ps) (sharePlace h (length tlcs)) start)) w-places
+      ∙ ap (λ (ps : List ℕ). unlessCut w ps (read·.Refused 4) (read·.Whole (length tlcs) (length ps) (behindTlcs h (length tlcs)) start)) w-places
       ∙ cut-passed w (read·.Refused 4) _ start [] (omega (arith, w-length, w-len))
       ∙ cut-none w (read·.Refused 4) _
 
   -- all unlocks are taken
-  w-unlocks : takeUnlocks (length tlcs) (sharePlace h (length tlcs)) w none (places w start) ≡ fine (length tlcs) (sharePlace h (length tlcs)) (takes c)
+  w-unlocks : takeUnlocks (length tlcs) (behindTlcs h (length tlcs)) w none (places w start) ≡ fine (length tlcs) (behindTlcs h (length tlcs)) (takes c)
   w-unlocks =
-      ap (takeUnlocks (length tlcs) (sharePlace h (length tlcs)) w none) w-places
-      ∙ unlocks-choice (length tlcs) (sharePlace h (length tlcs)) w start c few (within-tlcs (length tlcs) (length ps) c b) (ap (λ (i : ℕ). getD w i 0) (sym (add-zero start)) ∙ w-byte 0 ∙ u-whole .first)
+      ap (takeUnlocks (length tlcs) (behindTlcs h (length tlcs)) w none) w-places
+      ∙ unlocks-choice (length tlcs) (behindTlcs h (length tlcs)) w start c few (within-tlcs (length tlcs) (length ps) c b) (ap (λ (i : ℕ). getD w i 0) (sym (add-zero start)) ∙ w-byte 0 ∙ u-whole .first)
 
   pub unlock-accepted : (out : List ℕ) → length (stateAfter tlcs remote local (takes c)) ≤ length out
       → updated h w out
@@ -742,5 +735,5 @@ module _ {h : ℕ} {tlcs : List (List ℕ)} {remote local : List ℕ} (ok : Soun
       }
   unfolding stateAfter
   unlock-accepted out g =
-      updated-fine h w out (length tlcs) 1 (sharePlace h (length tlcs)) start w-read (takes c) w-unlocks
+      updated-fine h w out (length tlcs) 1 (behindTlcs h (length tlcs)) start w-read (takes c) w-unlocks
       ∙ rw (state-left ok count u (takes c)) (outcome-room (stateAfter tlcs remote local (takes c)) out g)

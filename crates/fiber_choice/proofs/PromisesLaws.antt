@@ -53,8 +53,8 @@ use Rattle.fiber_choice.specs.FirstRecords.{firstRecords, firstRemote, f
 use Rattle.fiber_choice.specs.Walk.{ourShare, Verdict, passed, timeout, ready, falls, stepOf, onward, walk, orShare}
 use Rattle.fiber_choice.specs.Verdicts.{duesBy, verdicts, mayShare, walked}
 use Rattle.fiber_types.specs.Records.{Outcome}
-use Rattle.fiber_choice.specs.HandedOut.{Picked, choiceByte, unlockOf, takes, stateAfter, newArgs, choiceAmount, recordSize, handedOut}
-use Rattle.fiber_choice.specs.Settlements.{walkedBy, handStep, ifReady, laterReady, laterChoice, unsettled, laterPlace, laterState, laterOf, later, firstDelay, firstPlace, firstThirds, firstReady, first}
+use Rattle.fiber_choice.specs.HandedOut.{choiceByte, unlockOf, takes, stateAfter, newArgs, choiceAmount, recordSize, handedOut}
+use Rattle.fiber_choice.specs.Settlements.{walkedBy, orWait, ifReady, laterReady, laterChoice, unsettled, laterPlace, laterState, laterOf, later, firstDelay, firstPlace, firstThirds, firstReady, first}
 use Rattle.fiber_choice.specs.Choice.{afterDelay, choiceOf, recordPart, recordOf}
 use Rattle.fiber_choice.specs.inner.Plan.{Within, Below}
 use Rattle.fiber_choice.specs.Promises.{Decides, tlcsLeft, tlcsBefore, KeyIn, PairIn, Before, Onward, waits, stays, sooner, atTime, Promised, Promises}
@@ -95,7 +95,7 @@ module _ (time time′ : ℕ) (t : time ≤ time′) where
       let taken : Step = step·.Chosen (choice·.Tlc place way·.Timeout) (key·.Tlc key) in
       by-holds (λ x y. Steps place p p′ (cond x taken (step·.Pending p)) (cond y taken (step·.Pending p′))) (ltb ms time) (ltb ms time′) (expired ms)
       refl refl (λ g. g)
-  step-later place p p′ (ready pair key) = refl
+  step-later place p p′ (ready pairPlace key) = refl
   step-later place p p′ (falls ms) =
       by-holds (λ x y. p′ ≤ p → cond y (p′ - 1) p′ ≤ cond x (p - 1) p) (ltb ms time) (ltb ms time′) (expired ms)
       (λ g. omega arith) (λ g. omega arith) (λ g. g)
@@ -131,7 +131,7 @@ module _ (forRemote may : Bool) where
       one : (v : Verdict) → Behind place (stepOf time k p v)
       one (passed why) = tt
       one (timeout ms key) = by-each (Behind place) (ltb ms time) _ _ g tt
-      one (ready pair key) = g
+      one (ready pairPlace key) = g
       one (falls ms) = tt
 
       go : (s : Step) → Behind place s → ((l : ℕ) → Behind place (rest time (k + 1) vs l)) → Behind place (orShare forRemote may (onward s (λ l. walk time (k + 1) l vs)))
@@ -168,11 +168,6 @@ abbrev States : Request → Bool → List ℕ → List ℕ → Type 0
 States q true w s = (into : List ℕ) → length s ≤ length into → updated (q .h) w into ≡ record { answer = written·.Bytes (length s); bytes = sets into 0 s }
 States q false w s = s ≡ firstState (q .h) (q .forRemote) (q .settlement)
 
--- a choice and its key, over shares
-abbrev pickedBy : List ℕ → List ℕ → (Choice → Delay) → (Choice → ℕ) → Choice → Key → Picked
-pickedBy remote local delay place choice key =
-    record { remote = remote; local = local; choice = choice; key = key; delay = delay choice; place = place choice }
-
 -- No row before the walk applies: at every time one step decides, over the same TLCs and shares, and what it chooses is handed out.
 record Begun (q : Request) (isLater : Bool) (w : List ℕ) : Type 0 where
   remote : List ℕ
@@ -180,7 +175,7 @@ record Begun (q : Request) (isLater : Bool) (w : List ℕ) : Type 0 where
   delay : Choice → Delay
   place : Choice → ℕ
   step : ℕ → Step
-  comes : (time : ℕ) (out : List ℕ) → choiceOf (atTime q time) isLater w out ≡ handStep (atTime q time) (pickedBy remote local delay place) out (step time)
+  comes : (time : ℕ) (out : List ℕ) → choiceOf (atTime q time) isLater w out ≡ orWait (atTime q time) remote local delay place out (step time)
   within : (time : ℕ) → StepWithin (length (trackedTlcs q)) (length (settlementTlcs q)) (length (pairs q)) (step time)
   moves : (time time′ : ℕ) → time ≤ time′ → Onward (step time) (step time′)
   hash : validHashLen (q .h) ≡ true
@@ -207,16 +202,16 @@ valid-hash q v = go (validHashLen (q .h)) refl
 
 -- ---- in a later settlement
 
-module _ (q : Request) (w : List ℕ) (n share : ℕ) (t : Taken) where
+module _ (q : Request) (w : List ℕ) (n sharePlace : ℕ) (t : Taken) where
   -- what the witness's own unlocks leave
   abbrev stand : List (List ℕ)
   stand = standing (q .h) w n (t .settled)
 
   abbrev remoteLeft : List ℕ
-  remoteLeft = shareLeft (t .remote) (part w share 36)
+  remoteLeft = shareLeft (t .remote) (part w sharePlace 36)
 
   abbrev localLeft : List ℕ
-  localLeft = shareLeft (t .local) (part w (share + 36) 36)
+  localLeft = shareLeft (t .local) (part w (sharePlace + 36) 36)
 
   -- our share, and the other one
   abbrev ours : List ℕ
@@ -225,7 +220,7 @@ module _ (q : Request) (w : List ℕ) (n share : ℕ) (t : Taken) where
   abbrev other : List ℕ
   other = cond (q .forRemote) remoteLeft localLeft
 
-  module _ (v : validRequest q ≡ true) (full : Epoch) (f : delayOf (q .args) ≡ scaled·.Epoch full) (u : unlocked (q .h) w ≡ fine n share t) (r : laterReady q stand ours ≡ ready·.Yes) where
+  module _ (v : validRequest q ≡ true) (full : Epoch) (f : delayOf (q .args) ≡ scaled·.Epoch full) (u : unlocked (q .h) w ≡ fine n sharePlace t) (r : laterReady q stand ours ≡ ready·.Yes) where
     stand-left : tlcsBefore q true w ≡ stand
     unfolding tlcsLeft
     stand-left = rw u
@@ -256,7 +251,7 @@ module _ (q : Request) (w : List ℕ) (n share : ℕ) (t : Taken) where
         let begins : laterPlace (q .h) (unsettled (t .settled) 0 n) (choice·.Tlc i way) ≡ 2 + getD (unsettled (t .settled) 0 n) i 0 * recordLen (q .h) = omega arith in
         ap (λ (k : ℕ). part w k (recordLen (q .h))) begins ∙ rw stand-left (standing-at (q .h) w n (t .settled) i (rw stand-left at g))
 
-    shares-there : share + 72 ≤ length w
+    shares-there : sharePlace + 72 ≤ length w
     shares-there = rw u at (unlocked-shares (q .h) w)
 
     later-begun : Begun q true w
@@ -273,8 +268,8 @@ module _ (q : Request) (w : List ℕ) (n share : ℕ) (t : Taken) where
       hash = valid-hash q v;
       few = stand-few;
       tlcs = stand-left ∙ stand-tracked;
-      remotes = left-length (t .remote) (part w share 36) (part-length w share 36 (omega (arith, shares-there)));
-      locals = left-length (t .local) (part w (share + 36) 36) (part-length w (share + 36) 36 (omega (arith, shares-there)));
+      remotes = left-length (t .remote) (part w sharePlace 36) (part-length w sharePlace 36 (omega (arith, shares-there)));
+      locals = left-length (t .local) (part w (sharePlace + 36) 36) (part-length w (sharePlace + 36) 36 (omega (arith, shares-there)));
       states = later-states;
       recorded = later-record;
     }
@@ -342,14 +337,14 @@ module _ (q : Request) (w out : List ℕ) (d : Decision) where
     unfolding later laterOf laterState ifReady
     later-begins = go (unlocked (q .h) w) refl
       where
-        ready-by : (n share : ℕ) (t : Taken) (u : unlocked (q .h) w ≡ fine n share t) (r : Ready) (o : Outcome ChoiceAnswer)
-            → laterReady q (stand q w n share t) (ours q w n share t) ≡ r → Begins true (ifReady r out o)
-        ready-by n share t u ready·.Yes o r e = later-begun q w n share t v full f u r
-        ready-by n share t u (ready·.Wait number) o r e = never d _ tt e
-        ready-by n share t u (ready·.Refused number) o r e = never d _ tt e
+        ready-by : (n sharePlace : ℕ) (t : Taken) (u : unlocked (q .h) w ≡ fine n sharePlace t) (r : Ready) (o : Outcome ChoiceAnswer)
+            → laterReady q (stand q w n sharePlace t) (ours q w n sharePlace t) ≡ r → Begins true (ifReady r out o)
+        ready-by n sharePlace t u ready·.Yes o r e = later-begun q w n sharePlace t v full f u r
+        ready-by n sharePlace t u (ready·.Wait number) o r e = never d _ tt e
+        ready-by n sharePlace t u (ready·.Refused number) o r e = never d _ tt e
 
         go : (x : Unlocked) → unlocked (q .h) w ≡ x → Begins true (laterOf q w out x)
-        go (fine n share t) u = ready-by n share t u _ _ refl
+        go (fine n sharePlace t) u = ready-by n sharePlace t u _ _ refl
         go (faulty number place) u = λ e. never d _ tt e
 
     first-begins : Begins false (first q full out)
@@ -414,10 +409,10 @@ module _ (q : Request) (isLater : Bool) (w : List ℕ) (c : Begun q isLater w) w
 
   module _ (out : List ℕ) where
     abbrev outcomeOf : Step → Outcome ChoiceAnswer
-    outcomeOf s = handStep q (pickedBy (c .remote) (c .local) (c .delay) (c .place)) out s
+    outcomeOf s = orWait q (c .remote) (c .local) (c .delay) (c .place) out s
 
     step-handed : (d : Decision) (s : Step) → c .step (q .time) ≡ s → outcomeOf s .answer ≡ answer·.Chosen d → Handed out d (outcomeOf s .bytes)
-    unfolding handStep handedOut
+    unfolding orWait handedOut
     step-handed d (step·.Pending pending) f = λ e. never d _ tt e
     step-handed d (step·.Chosen choice key) f =
         by-test (λ (o : Outcome ChoiceAnswer). o .answer ≡ answer·.Chosen d → Handed out d (o .bytes)) (leb (length (joined choice)) (length out)) _ _
@@ -438,7 +433,7 @@ module _ (q : Request) (isLater : Bool) (w : List ℕ) (c : Begun q isLater w) w
     -- at any time, a choice that has room is handed out
     step-room : (time : ℕ) (choice : Choice) (key : Key) → c .step time ≡ step·.Chosen choice key → length (joined choice) ≤ length out
         → (d : Decision) × (Decides (atTime q time) isLater w out d × ((d .choice ≡ choice) × (d .key ≡ key)))
-    unfolding handStep handedOut
+    unfolding orWait handedOut
     step-room time choice key f g = rw (c .comes time out, f, le-leb (length (joined choice)) (length out) g) (_, (refl, (refl, refl)))
 
   -- ---- what is said of a decision
@@ -488,7 +483,7 @@ unfolding unlockOf
 shorter ps x y waits = tt
 shorter ps x y stays = omega arith
 shorter ps x y (sooner {choice = choice} {place = place} b) =
-    omega (arith, unlockBytes-length (record { byte = place; flag = false }) (replicate 65 0) [], unlock-least ps choice)
+    omega (arith, unlockBytes-length (record { byte = choiceByte (choice·.Tlc place way·.Timeout); flag = false }) (replicate 65 0) [], unlock-least ps choice)
 
 later-choice : (q : Request) (isLater : Bool) (w : List ℕ) (c : Begun q isLater w) (out : List ℕ) (d : Decision) (bytes : List ℕ) (t : Handed q isLater w c out d bytes)
     (time : ℕ) → q .time ≤ time

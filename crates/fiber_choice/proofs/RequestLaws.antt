@@ -14,13 +14,13 @@ use Rattle.fiber_since.specs.declared.epoch.Scaled.the-variants as scaled·
 use Rattle.fiber_since.specs.declared.since.Since.{Since}
 use Rattle.fiber_since.specs.declared.since.Metric.{Metric}
 use Rattle.fiber_since.specs.declared.since.Metric.the-variants as metric·
-use Rattle.fiber_since.specs.Since.{since}
-use Rattle.fiber_since.specs.Epoch.{withinBits}
+use Rattle.fiber_since.specs.Since.{byMetric, since}
+use Rattle.fiber_since.specs.Epoch.{epochOf, withinBits}
 use Rattle.fiber_since.proofs.EpochLaws.{epoch-within}
 use Rattle.fiber_types.specs.Records.{validHashLen}
 use Rattle.fiber_choice.specs.declared.kinds.Scalars.{Scalars}
 use Rattle.fiber_choice.specs.Entries.{entries, wholeEntries, all, settlementLen, validSettlement, trackedLen, validTracked}
-use Rattle.fiber_choice.specs.Request.{SettlementData, requestOf, validData, validRequest, ofMetric, delayOf}
+use Rattle.fiber_choice.specs.Request.{SettlementData, requestOf, validData, validRequest, delayOf}
 use Rattle.fiber_choice.proofs.HandedLaws.{tracked-size}
 
 -- ---- row 14
@@ -124,7 +124,7 @@ module _ (args : List ℕ) where
     delay-absolute g = rw (le-ltb (length args) 36 h, since-of, g)
 
     -- by its metric
-    pub delay-metric : s .relative ≡ true → (m : Metric) → s .metric ≡ m → ofMetric m (s .value) ≡ delayOf args
+    pub delay-metric : s .relative ≡ true → (m : Metric) → s .metric ≡ m → byMetric (scaled·.Epoch (epochOf (s .value))) (scaled·.Refused 11 0) (scaled·.Refused 11 0) m ≡ delayOf args
     unfolding delayOf
     delay-metric g m k = rw (le-ltb (length args) 36 h, since-of, g, k)
 
@@ -134,8 +134,7 @@ Delayed args (scaled·.Epoch full) = (36 ≤ length args) × (withinBits full �
 Delayed args (scaled·.Refused number place) = Unit {0}
 
 -- by the metric
-metric-delayed : (args : List ℕ) (m : Metric) (v : ℕ) → 36 ≤ length args → Delayed args (ofMetric m v)
-unfolding ofMetric
+metric-delayed : (args : List ℕ) (m : Metric) (v : ℕ) → 36 ≤ length args → Delayed args (byMetric (scaled·.Epoch (epochOf v)) (scaled·.Refused 11 0) (scaled·.Refused 11 0) m)
 metric-delayed args metric·.Block v h = tt
 metric-delayed args metric·.Epoch v h = (h, epoch-within v)
 metric-delayed args metric·.Timestamp v h = tt
@@ -147,7 +146,7 @@ unfolding delayOf
 delayed args = go (ltb (length args) 36) refl (since (le (part args 20 8)) .relative)
   where
     go : (b : Bool) → ltb (length args) 36 ≡ b → (r : Bool)
-        → Delayed args (cond b (scaled·.Refused 10 0) (cond r (ofMetric (since (le (part args 20 8)) .metric) (since (le (part args 20 8)) .value)) (scaled·.Refused 11 0)))
+        → Delayed args (cond b (scaled·.Refused 10 0) (cond r (byMetric (scaled·.Epoch (epochOf (since (le (part args 20 8)) .value))) (scaled·.Refused 11 0) (scaled·.Refused 11 0) (since (le (part args 20 8)) .metric)) (scaled·.Refused 11 0)))
     go true e r = tt
     go false e true = metric-delayed args (since (le (part args 20 8)) .metric) (since (le (part args 20 8)) .value) (ltb-false _ _ e)
     go false e false = tt

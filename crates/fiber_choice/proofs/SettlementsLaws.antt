@@ -14,7 +14,7 @@ use lib.Seq.{drop-drop}
 use borrow.Author.Tests.{le-leb, lt-leb, leb-true, eqb-false}
 use Rattle.fiber_bytes.proofs.CaseLaws.{by-each}
 use Rattle.fiber_bytes.specs.Bytes.{part}
-use Rattle.fiber_bytes.proofs.BytesLaws.{part-behind}
+use Rattle.fiber_bytes.proofs.BytesLaws.{part-behind, one-less}
 use Rattle.fiber_since.specs.declared.epoch.Epoch.{Epoch}
 use Rattle.fiber_since.specs.declared.epoch.Scaled.{Scaled}
 use Rattle.fiber_since.specs.declared.epoch.Scaled.the-variants as scaled·
@@ -24,17 +24,18 @@ use Rattle.fiber_since.proofs.EpochLaws.{within}
 use Rattle.fiber_witness.specs.declared.witness.WitnessRead.the-variants as read·
 use Rattle.fiber_witness.specs.declared.unlocks.UnlocksAnswer.{UnlocksAnswer}
 use Rattle.fiber_witness.specs.declared.unlocks.UnlocksAnswer.the-variants as unlocks·
-use Rattle.fiber_witness.specs.Witness.{recordLen, records, member, places, readWitness}
+use Rattle.fiber_witness.specs.Witness.{recordLen, chunks, member, places, readWitness}
 use Rattle.fiber_witness.specs.Update.{none, takeUnlocks, keep, shareLeft, standing, byRead, unlocked}
-use Rattle.fiber_witness.specs.inner.Strided.{sharePlace}
+use Rattle.fiber_witness.specs.inner.Strided.{behindTlcs}
 use Rattle.fiber_witness.specs.inner.Marks.{Marks, marked, TakesAs}
-use Rattle.fiber_witness.proofs.WitnessLaws.{left, records-length}
+use Rattle.fiber_witness.proofs.WitnessLaws.{records-length}
 use Rattle.fiber_witness.proofs.UpdateLaws.{unlocks-come, All, takes-all, takes-faulty, marks-marked, keep-marked, keep-cons}
 use Rattle.fiber_choice.specs.declared.kinds.Side.{Side}
 use Rattle.fiber_choice.specs.declared.kinds.Way.{Way}
 use Rattle.fiber_choice.specs.declared.kinds.Choice.{Choice}
 use Rattle.fiber_choice.specs.declared.kinds.Choice.the-variants as choice·
 use Rattle.fiber_choice.specs.declared.kinds.Key.{Key}
+use Rattle.fiber_choice.specs.declared.kinds.Delay.{Delay}
 use Rattle.fiber_choice.specs.declared.kinds.Delay.the-variants as delay·
 use Rattle.fiber_choice.specs.declared.kinds.Dues.{Dues}
 use Rattle.fiber_choice.specs.declared.kinds.Stage.the-variants as stage·
@@ -50,8 +51,8 @@ use Rattle.fiber_choice.specs.FirstRecords.{hashOf, shareBytes, firstRec
 use Rattle.fiber_choice.specs.Walk.{ourShare}
 use Rattle.fiber_choice.specs.Verdicts.{duesBy}
 use Rattle.fiber_types.specs.Records.{Outcome, Gives}
-use Rattle.fiber_choice.specs.HandedOut.{Picked, handedOut}
-use Rattle.fiber_choice.specs.Settlements.{walkedBy, handStep, ifReady, laterReady, laterChoice, unsettled, laterPlace, laterPicked, laterState, laterOf, later, firstDelay, firstPlace, firstPicked, firstThirds, lengthsZero, firstReady, first}
+use Rattle.fiber_choice.specs.HandedOut.{handedOut}
+use Rattle.fiber_choice.specs.Settlements.{walkedBy, orWait, ifReady, laterReady, laterChoice, unsettled, laterPlace, laterState, laterOf, later, firstDelay, firstPlace, firstThirds, lengthsZero, firstReady, first}
 use Rattle.fiber_choice.specs.inner.Plan.{Reaches, Within, Below}
 use Rattle.fiber_choice.proofs.EntriesLaws.{lists-short, lists-length, record-at, tracked-length, entries-length, entry-room, entries-cons, lists-equal}
 use Rattle.fiber_choice.proofs.FirstRecordsLaws.{firsts-count}
@@ -79,23 +80,23 @@ module _ (r : Ready) (out : List ℕ) (o : Outcome ChoiceAnswer) where
   unfolding ifReady
   ready-yes e = rw e
 
-module _ (q : Request) (picked : Choice → Key → Picked) (out : List ℕ) (s : Step) where
+module _ (q : Request) (remote local : List ℕ) (delay : Choice → Delay) (place : Choice → ℕ) (out : List ℕ) (s : Step) where
   -- row 22
-  pub hand-wait : (pending : ℕ) → s ≡ step·.Pending pending → Gives (handStep q picked out s) (answer·.Wait 22 0) out
-  unfolding handStep
-  hand-wait pending e = (rw e, rw e)
+  pub nothing-chosen : (pending : ℕ) → s ≡ step·.Pending pending → Gives (orWait q remote local delay place out s) (answer·.Wait 22 0) out
+  unfolding orWait
+  nothing-chosen pending e = (rw e, rw e)
 
   -- what is chosen
-  pub hand-chosen : (choice : Choice) (key : Key) → s ≡ step·.Chosen choice key
-      → handedOut (q .h) (q .args) (trackedTlcs q) (pairs q) (picked choice key) out ≡ handStep q picked out s
-  unfolding handStep
-  hand-chosen choice key e = rw e
+  pub one-chosen : (choice : Choice) (key : Key) → s ≡ step·.Chosen choice key
+      → handedOut (q .h) (q .args) (trackedTlcs q) (pairs q) remote local choice key (delay choice) (place choice) out ≡ orWait q remote local delay place out s
+  unfolding orWait
+  one-chosen choice key e = rw e
 
 -- ---- the records that stand, and the tracked ones
 
 -- the records that stand, from place i on
 abbrev stand : ℕ → List ℕ → ℕ → List Bool → ℕ → List (List ℕ)
-stand h w n marks i = keep (marked marks) i (drop i (records (recordLen h) n (drop 2 w)))
+stand h w n marks i = keep (marked marks) i (drop i (chunks (recordLen h) n (drop 2 w)))
 
 -- the tracked ones, from place j on
 abbrev track : ℕ → List ℕ → ℕ → List (List ℕ)
@@ -144,15 +145,15 @@ module _ (h : ℕ) (w : List ℕ) (n : ℕ) (marks : List Bool) (s : List ℕ) (
   pub comparing-end : n ≤ i → true ≡ whole
   unfolding keep trackedRecords sameLists
   comparing-end g =
-      let a : length (records (recordLen h) n (drop 2 w)) ≤ i = omega (arith, records-length (recordLen h) n (drop 2 w)) in
-      let p : drop i (records (recordLen h) n (drop 2 w)) ≡ [] = drop-of-length-le (records (recordLen h) n (drop 2 w)) a in
+      let a : length (chunks (recordLen h) n (drop 2 w)) ≤ i = omega (arith, records-length (recordLen h) n (drop 2 w)) in
+      let p : drop i (chunks (recordLen h) n (drop 2 w)) ≡ [] = drop-of-length-le (chunks (recordLen h) n (drop 2 w)) a in
       let b : length (entries (98 + h) s) ≤ c .j = omega (arith, entries-length (98 + h) s, c .many, ap (λ (l : List (List ℕ)). length (keep (marked marks) i l)) p) in
       let q : drop (c .j) (entries (98 + h) s) ≡ [] = drop-of-length-le (entries (98 + h) s) b in
       rw (p, q) at (c .rest)
 
   module _ (g : i < n) where
     -- the record at place i
-    stand-at : getD (records (recordLen h) n (drop 2 w)) i [] ≡ part w from (recordLen h)
+    stand-at : getD (chunks (recordLen h) n (drop 2 w)) i [] ≡ part w from (recordLen h)
     stand-at =
         record-at (recordLen h) n (drop 2 w) i g
         ∙ ap (take (recordLen h)) (drop-drop (i * recordLen h) 2 w)
@@ -164,14 +165,14 @@ module _ (h : ℕ) (w : List ℕ) (n : ℕ) (marks : List Bool) (s : List ℕ) (
     unfolding Marks
     stand-cons b m =
         rw (sym (marks-marked marks i) ∙ m, stand-at) at
-        (keep-cons (marked marks) (records (recordLen h) n (drop 2 w)) i (omega (arith, records-length (recordLen h) n (drop 2 w))))
+        (keep-cons (marked marks) (chunks (recordLen h) n (drop 2 w)) i (omega (arith, records-length (recordLen h) n (drop 2 w))))
 
     -- one record further
     next-begins : from + recordLen h ≡ 2 + (i + 1) * recordLen h
     next-begins = omega (arith, c .begins, add-one i, suc-mul i (recordLen h))
 
     -- the record is whole
-    pub comparing-from : sharePlace h n ≤ length w → from + recordLen h ≤ length w
+    pub comparing-from : behindTlcs h n ≤ length w → from + recordLen h ≤ length w
     comparing-from f = omega (arith, c .begins, suc-mul i (recordLen h), mul-le-mul-right (recordLen h) g)
 
     -- a record that is settled is passed
@@ -251,7 +252,7 @@ module _ (n place : ℕ) (marks : List Bool) (whole k i : ℕ) (c : Placing n pl
     unsettled-cons : (b : Bool) → getD marks i false ≡ b
         → unsettled (marked marks) i (n - i) ≡ cond b (unsettled (marked marks) (i + 1) (n - (i + 1))) (i ∷ unsettled (marked marks) (i + 1) (n - (i + 1)))
     unfolding unsettled Marks
-    unsettled-cons b m = rw (left n i h, sym (marks-marked marks i) ∙ m)
+    unsettled-cons b m = rw (one-less n i h, sym (marks-marked marks i) ∙ m)
 
     -- one that is settled is passed
     pub placing-gone : getD marks i false ≡ true → Placing n place marks whole k (i + 1)
@@ -336,17 +337,18 @@ module _ (q : Request) (tlcs : List (List ℕ)) (ours : List ℕ) (k : ℕ) (c :
       unfolding laterReady
       later-yes d = rw (← c, le-leb k 254 f, g, d)
 
+-- a row before the walk
+abbrev No : Ready → Type 0
+No ready·.Yes = ⊥
+No (ready·.Wait number) = Unit {0}
+No (ready·.Refused number) = Unit {0}
+
 -- where the walk may begin, few stand, and they are the tracked ones
 pub later-ready : (q : Request) (tlcs : List (List ℕ)) (ours : List ℕ) → laterReady q tlcs ours ≡ ready·.Yes
     → (length tlcs ≤ 254) × (sameLists tlcs (trackedRecords (trackedTlcs q)) ≡ true)
 unfolding laterReady
 later-ready q tlcs ours = go (leb (length tlcs) 254) (sameLists tlcs (trackedRecords (trackedTlcs q))) (same (take 20 ours) (hashOf (q .settlement .localKey))) refl
   where
-    No : Ready → Type 0
-    No ready·.Yes = ⊥
-    No (ready·.Wait number) = Unit {0}
-    No (ready·.Refused number) = Unit {0}
-
     go : (x y z : Bool) → leb (length tlcs) 254 ≡ x
         → cond x (cond y (cond z ready·.Yes (ready·.Wait 21)) (ready·.Wait 20)) (ready·.Refused 12) ≡ ready·.Yes
         → (length tlcs ≤ 254) × (y ≡ true)
@@ -380,7 +382,7 @@ by-flag b x y z (inr p) = rw (p .0) (p .1)
 -- of a state that the witness's unlocks leave, with what the code finds of it
 module _ (q : Request) (out : List ℕ) (tlcs : List (List ℕ)) (firsts remote local ours other : List ℕ)
     (p : ours ≡ cond (q .forRemote) local remote) (o : other ≡ cond (q .forRemote) remote local) (r : Ready) (e : r ≡ laterReady q tlcs ours) where
-  state-as : ifReady r out (handStep q (laterPicked (q .h) firsts remote local) out (laterChoice q other)) ≡ laterState q out tlcs firsts remote local
+  state-as : ifReady r out (orWait q remote local (λ c. delay·.None) (laterPlace (q .h) firsts) out (laterChoice q other)) ≡ laterState q out tlcs firsts remote local
   unfolding laterState
   state-as = rw (e, p, o)
 
@@ -401,7 +403,7 @@ module _ (q : Request) (out : List ℕ) (tlcs : List (List ℕ)) (firsts remote 
     module _ (s : Step) (f : s ≡ laterChoice q other) where
       -- row 22
       pub state-nothing : (pending : ℕ) → s ≡ step·.Pending pending → Gives (laterState q out tlcs firsts remote local) (answer·.Wait 22 0) out
-      state-nothing pending g = leaves-as _ _ (ready-yes r out _ y ∙ state-as) _ _ (hand-wait q (laterPicked (q .h) firsts remote local) out (laterChoice q other) pending (sym f ∙ g))
+      state-nothing pending g = leaves-as _ _ (ready-yes r out _ y ∙ state-as) _ _ (nothing-chosen q remote local (λ c. delay·.None) (laterPlace (q .h) firsts) out (laterChoice q other) pending (sym f ∙ g))
 
       module _ (choice : Choice) (key : Key) (g : s ≡ step·.Chosen choice key) where
         pub state-within : Within (length (trackedTlcs q)) (length (pairs q)) choice
@@ -409,10 +411,10 @@ module _ (q : Request) (out : List ℕ) (tlcs : List (List ℕ)) (firsts remote 
 
         -- what is handed out
         pub state-chosen : (place : ℕ) → place ≡ laterPlace (q .h) firsts choice → (a : ChoiceAnswer) (after : List ℕ)
-            → Gives (handedOut (q .h) (q .args) (trackedTlcs q) (pairs q) (record { remote = remote; local = local; choice = choice; key = key; delay = delay·.None; place = place }) out) a after
+            → Gives (handedOut (q .h) (q .args) (trackedTlcs q) (pairs q) remote local choice key delay·.None place out) a after
             → Gives (laterState q out tlcs firsts remote local) a after
         state-chosen place k a after w =
-            leaves-as _ _ (hand-chosen q (laterPicked (q .h) firsts remote local) out (laterChoice q other) choice key (sym f ∙ g) ∙ ready-yes r out _ y ∙ state-as) a after (rw k at w)
+            leaves-as _ _ (one-chosen q remote local (λ c. delay·.None) (laterPlace (q .h) firsts) out (laterChoice q other) choice key (sym f ∙ g) ∙ ready-yes r out _ y ∙ state-as) a after (rw k at w)
 
 module _ (q : Request) (w out : List ℕ) where
   -- a witness that is not read
@@ -421,33 +423,33 @@ module _ (q : Request) (w out : List ℕ) where
   later-refused k p e = (rw e, rw e)
 
   -- one that is read whole
-  pub later-whole : (n k share start : ℕ) → readWitness (q .h) w ≡ read·.Whole n k share start
-      → laterOf q w out (takeUnlocks n share w none (places w start)) ≡ later q w out
+  pub later-whole : (n k sharePlace start : ℕ) → readWitness (q .h) w ≡ read·.Whole n k sharePlace start
+      → laterOf q w out (takeUnlocks n sharePlace w none (places w start)) ≡ later q w out
   unfolding later unlocked byRead
-  later-whole n k share start e = rw e
+  later-whole n k sharePlace start e = rw e
 
   -- with the answer of `take_unlocks`
-  module _ (n share start : ℕ) (v : UnlocksAnswer) (marks : List Bool) (remote local : Bool)
-      (j : TakesAs (takeUnlocks n share w none (places w start)) v marks remote local) where
+  module _ (n sharePlace start : ℕ) (v : UnlocksAnswer) (marks : List Bool) (remote local : Bool)
+      (j : TakesAs (takeUnlocks n sharePlace w none (places w start)) v marks remote local) where
     -- row 5 or 6
-    pub later-faulty : (k p : ℕ) → v ≡ unlocks·.Refused k p → Gives (laterOf q w out (takeUnlocks n share w none (places w start))) (answer·.Refused k p) out
+    pub later-faulty : (k p : ℕ) → v ≡ unlocks·.Refused k p → Gives (laterOf q w out (takeUnlocks n sharePlace w none (places w start))) (answer·.Refused k p) out
     unfolding laterOf
-    later-faulty k p e = let f = takes-faulty v marks remote local (unlocks-come n share w none (places w start)) j k p e in (rw f, rw f)
+    later-faulty k p e = let f = takes-faulty v marks remote local (unlocks-come n sharePlace w none (places w start)) j k p e in (rw f, rw f)
 
     -- every unlock is taken, and the marks say what was settled
-    pub later-fine : (x y : List ℕ) → v ≡ unlocks·.Fine → x ≡ shareLeft remote (part w share 36) → y ≡ shareLeft local (part w (share + 36) 36)
-        → laterState q out (standing (q .h) w n (marked marks)) (unsettled (marked marks) 0 n) x y ≡ laterOf q w out (takeUnlocks n share w none (places w start))
+    pub later-fine : (x y : List ℕ) → v ≡ unlocks·.Fine → x ≡ shareLeft remote (part w sharePlace 36) → y ≡ shareLeft local (part w (sharePlace + 36) 36)
+        → laterState q out (standing (q .h) w n (marked marks)) (unsettled (marked marks) 0 n) x y ≡ laterOf q w out (takeUnlocks n sharePlace w none (places w start))
     unfolding laterOf standing
-    later-fine x y e f g = go (takes-all v marks remote local (unlocks-come n share w none (places w start)) j e)
+    later-fine x y e f g = go (takes-all v marks remote local (unlocks-come n sharePlace w none (places w start)) j e)
       where
-        go : All n share marks remote local (takeUnlocks n share w none (places w start))
-            → laterState q out (standing (q .h) w n (marked marks)) (unsettled (marked marks) 0 n) x y ≡ laterOf q w out (takeUnlocks n share w none (places w start))
+        go : All n sharePlace marks remote local (takeUnlocks n sharePlace w none (places w start))
+            → laterState q out (standing (q .h) w n (marked marks)) (unsettled (marked marks) 0 n) x y ≡ laterOf q w out (takeUnlocks n sharePlace w none (places w start))
         go t =
             rw (
               t .is,
               f,
               g,
-              keep-marked marks (t .taken .settled) (t .says) 0 (records (recordLen (q .h)) n (drop 2 w)),
+              keep-marked marks (t .taken .settled) (t .says) 0 (chunks (recordLen (q .h)) n (drop 2 w)),
               unsettled-marked marks (t .taken .settled) (t .says) 0 n,
               t .remote-is,
               t .local-is,
@@ -539,11 +541,6 @@ pub first-ready : (q : Request) (full : Epoch) → firstReady q full ≡ ready·
 unfolding firstReady
 first-ready q full = go (lengthsZero (q .header) (q .current) full) (leb (length (settlementTlcs q)) 254) (sameLists (firstRecords (q .h) (q .forRemote) (settlementTlcs q)) (trackedRecords (trackedTlcs q))) refl refl refl
   where
-    No : Ready → Type 0
-    No ready·.Yes = ⊥
-    No (ready·.Wait number) = Unit {0}
-    No (ready·.Refused number) = Unit {0}
-
     go : (x y z : Bool) → lengthsZero (q .header) (q .current) full ≡ x → leb (length (settlementTlcs q)) 254 ≡ y
         → sameLists (firstRecords (q .h) (q .forRemote) (settlementTlcs q)) (trackedRecords (trackedTlcs q)) ≡ z
         → cond x (ready·.Refused 7) (cond y (cond z ready·.Yes (ready·.Wait 20)) (ready·.Refused 12)) ≡ ready·.Yes → FirstReady q full
@@ -590,13 +587,23 @@ local-by b d r e = e
 -- by the thirds of the delay, with what the code finds of them
 module _ (q : Request) (out : List ℕ) (full third two : Epoch) (x y : Scaled) (ex : x ≡ scaled full 1 3) (fx : x ≡ scaled·.Epoch third) (ey : y ≡ scaled full 2 3) (fy : y ≡ scaled·.Epoch two)
     (d : Dues) (ed : d ≡ duesBy (q .header) third two full (q .current)) (s : Step) (es : s ≡ walkedBy q (stage·.First d)) where
-  thirds-as : handStep q (firstPicked q third two full) out s ≡ firstThirds q out full (scaled full 1 3) (scaled full 2 3)
+  -- the delay that goes with a choice
+  abbrev scaledDelay : Choice → Delay
+  scaledDelay choice = delay·.Epoch (firstDelay third two full choice)
+
+  abbrev remotely : List ℕ
+  remotely = firstRemote (q .forRemote) (q .settlement)
+
+  abbrev locally : List ℕ
+  locally = firstLocal (q .forRemote) (q .settlement)
+
+  thirds-as : orWait q remotely locally scaledDelay (firstPlace (q .h)) out s ≡ firstThirds q out full (scaled full 1 3) (scaled full 2 3)
   unfolding firstThirds
   thirds-as = rw (← ex, fx, ← ey, fy, ← ed, es)
 
   -- row 22
   pub thirds-nothing : (pending : ℕ) → s ≡ step·.Pending pending → Gives (firstThirds q out full (scaled full 1 3) (scaled full 2 3)) (answer·.Wait 22 0) out
-  thirds-nothing pending g = leaves-as _ _ thirds-as _ _ (hand-wait q (firstPicked q third two full) out s pending g)
+  thirds-nothing pending g = leaves-as _ _ thirds-as _ _ (nothing-chosen q remotely locally scaledDelay (firstPlace (q .h)) out s pending g)
 
   module _ (choice : Choice) (key : Key) (g : s ≡ step·.Chosen choice key) where
     pub thirds-within : length (settlementTlcs q) ≡ length (trackedTlcs q) → Within (length (trackedTlcs q)) (length (pairs q)) choice
@@ -608,10 +615,10 @@ module _ (q : Request) (out : List ℕ) (full third two : Epoch) (x y : Scaled) 
     -- what is handed out
     pub thirds-chosen : (remote local : List ℕ) (delay : Epoch) (place : ℕ) → remote ≡ firstRemote (q .forRemote) (q .settlement) → local ≡ firstLocal (q .forRemote) (q .settlement)
         → delay ≡ firstDelay third two full choice → place ≡ firstPlace (q .h) choice → (a : ChoiceAnswer) (after : List ℕ)
-        → Gives (handedOut (q .h) (q .args) (trackedTlcs q) (pairs q) (record { remote = remote; local = local; choice = choice; key = key; delay = delay·.Epoch delay; place = place }) out) a after
+        → Gives (handedOut (q .h) (q .args) (trackedTlcs q) (pairs q) remote local choice key (delay·.Epoch delay) place out) a after
         → Gives (firstThirds q out full (scaled full 1 3) (scaled full 2 3)) a after
     thirds-chosen remote local delay place er el ed ep a after w =
-        leaves-as _ _ (hand-chosen q (firstPicked q third two full) out s choice key g ∙ thirds-as) a after (rw (er, el, ed, ep) at w)
+        leaves-as _ _ (one-chosen q remotely locally scaledDelay (firstPlace (q .h)) out s choice key g ∙ thirds-as) a after (rw (er, el, ed, ep) at w)
 
 -- what is chosen is among the tracked TLCs
 pub first-within : (q : Request) (d : Dues) → length (settlementTlcs q) ≡ length (trackedTlcs q)
@@ -647,7 +654,7 @@ pub standing-at : (h : ℕ) (w : List ℕ) (n : ℕ) (s : List ℕ) (k : ℕ) �
     → part w (2 + getD (unsettled s 0 n) k 0 * recordLen h) (recordLen h) ≡ getD (standing h w n s) k []
 unfolding standing
 standing-at h w n s k g =
-    let p = keep-at s (records (recordLen h) n (drop 2 w)) n 0 k (omega (arith, records-length (recordLen h) n (drop 2 w))) g in
+    let p = keep-at s (chunks (recordLen h) n (drop 2 w)) n 0 k (omega (arith, records-length (recordLen h) n (drop 2 w))) g in
     let j : ℕ = getD (unsettled s 0 n) k 0 in
     let b : j < n = omega (arith, p .0, records-length (recordLen h) n (drop 2 w)) in
     sym (p .1 ∙ record-at (recordLen h) n (drop 2 w) j b ∙ ap (take (recordLen h)) (drop-drop (j * recordLen h) 2 w))

@@ -1,10 +1,10 @@
 -- Laws of `specs/Verdicts.antt`: the search for a key, and the verdict of one TLC as the code comes to it.
 -- Assumes nothing.
-use Prim.Native.Nat.{ℕ, _+_, _-_, _*_, _/_, _≤_, _<_}
+use Prim.Native.Nat.{ℕ, _+_, _-_, _*_, _≤_, _<_}
 use native.Mathlib.Omega.{arith}
-use mathlib.Core.Path.{_≡_, refl, sym, ap, subst, _∙_}
-use mathlib.Core.Bool.{Bool, true, false, not, cond, _&&_}
-use mathlib.Core.List.{List, [], _∷_}
+use mathlib.Core.Path.{_≡_, refl, sym, ap, _∙_}
+use mathlib.Core.Bool.{Bool, true, false}
+use mathlib.Core.List.{List, []}
 use lib.Dec.{eqb}
 use lib.ListN.{length, getD, take, drop, length-drop}
 use lib.Seq.{take-take, take-all}
@@ -32,47 +32,30 @@ use Rattle.fiber_choice.specs.declared.kinds.Stage.{Stage}
 use Rattle.fiber_choice.specs.declared.kinds.Stage.the-variants as stage·
 use Rattle.fiber_choice.specs.declared.kinds.Step.{Step}
 use Rattle.fiber_choice.specs.declared.kinds.Step.the-variants as step·
-use Rattle.fiber_choice.specs.Entries.{same, entries, received, hash, expiryMs, settlementLen, trackedRecord}
+use Rattle.fiber_choice.specs.Entries.{same, entries, received, hash, expiryMs, settlementLen, trackedRecord, localKey}
 use Rattle.fiber_choice.specs.Preimages.{countingPair}
 use Rattle.fiber_choice.specs.Walk.{timeoutKind, Cause, noExpiry, noKey, notDue, noPreimage, Verdict, passed, timeout, ready, falls, stepOf}
-use Rattle.fiber_choice.specs.Verdicts.{isKey, findKey, keyOf, byPair, byKey, byExpiry, laterVerdict, duesBy, firstVerdict, verdict}
+use Rattle.fiber_choice.specs.FirstRecords.{hashOf}
+use Rattle.fiber_choice.specs.Verdicts.{isKey, keyOf, byPair, byKey, byExpiry, laterVerdict, duesBy, firstVerdict, verdict}
 use Rattle.fiber_choice.specs.inner.Plan.{Reaches}
-use Rattle.fiber_choice.proofs.EntriesLaws.{Along, along-end, along-stop, along-next, entries-length, entry-at, entry-room}
-use Rattle.fiber_choice.proofs.PreimagesLaws.{FoundBelow, counting-below}
-
--- the other kind, as the code says it
-pub not-cond : (b : Bool) → not b ≡ cond b false true
-not-cond true = refl
-not-cond false = refl
+use Rattle.fiber_choice.proofs.EntriesLaws.{FoundBelow, found-below, entries-length, entry-at, entry-room}
+use Rattle.fiber_choice.proofs.PreimagesLaws.{counting-below}
 
 -- ---- keys
 
-module _ (s start ours : List ℕ) (whole : Found) (at i : ℕ) (g : length start ≤ 32) (c : Along settlementLen s (λ es. findKey i es start ours) whole at i) where
-  -- none is the key
-  pub key-none : length s / 124 ≤ i → found·.None ≡ whole
-  unfolding findKey
-  key-none h = along-end settlementLen s (λ es. findKey i es start ours) whole at i c h
+-- a settlement TLC is the key, or not, by the front of its hash and by its local key
+module _ (start ours t : List ℕ) (g : length start ≤ 32) where
+  -- the front of its hash
+  key-start : take (length start) (hash t) ≡ part t 18 (length start)
+  key-start = take-take (length start) 32 (drop 18 t) g
 
-  module _ (h : i < length s / 124) where
-    -- the front of the hash of the TLC at place i
-    key-start : take (length start) (hash (part s at settlementLen)) ≡ part (part s at settlementLen) 18 (length start)
-    key-start = take-take (length start) 32 (drop 18 (part s at settlementLen)) g
+  pub key-fits : same (part t 18 (length start)) start ≡ true → isKey start ours t ≡ same (hashOf (localKey t)) ours
+  unfolding isKey
+  key-fits e = rw (key-start, e)
 
-    -- it is the one
-    pub key-found : same (part (part s at settlementLen) 18 (length start)) start ≡ true → isKey (part s at settlementLen) ours ≡ true → found·.At i ≡ whole
-    unfolding findKey
-    key-found e f = along-stop settlementLen s (λ es. findKey i es start ours) whole at i c h (found·.At i) (λ es. rw (key-start, e, f))
-
-    -- its hash is another
-    pub key-hash : same (part (part s at settlementLen) 18 (length start)) start ≡ false → Along settlementLen s (λ es. findKey (i + 1) es start ours) whole (at + 124) (i + 1)
-    unfolding findKey
-    key-hash e = along-next settlementLen s (λ es. findKey i es start ours) whole at i c h (λ es. findKey (i + 1) es start ours) (λ es. rw (key-start, e))
-
-    -- its key is another
-    pub key-other : same (part (part s at settlementLen) 18 (length start)) start ≡ true → isKey (part s at settlementLen) ours ≡ false
-        → Along settlementLen s (λ es. findKey (i + 1) es start ours) whole (at + 124) (i + 1)
-    unfolding findKey
-    key-other e f = along-next settlementLen s (λ es. findKey i es start ours) whole at i c h (λ es. findKey (i + 1) es start ours) (λ es. rw (key-start, e, f))
+  pub key-unfit : same (part t 18 (length start)) start ≡ false → isKey start ours t ≡ false
+  unfolding isKey
+  key-unfit e = rw (key-start, e)
 
 -- what the code compares with the start of a hash
 pub key-front : (s start : List ℕ) (at : ℕ) (front : List ℕ) (b : Bool) → front ≡ part (take (at + 124 - at) (drop at s)) 18 (length start) → b ≡ same front start
@@ -102,9 +85,9 @@ module _ (time place pending : ℕ) where
   unfolding stepOf
   step-passed why = refl
 
-  pub step-ready : (pair key : ℕ) → step·.Chosen (choice·.Tlc place (way·.Preimage pair)) (key·.Tlc key) ≡ stepOf time place pending (ready pair key)
+  pub step-ready : (pairPlace key : ℕ) → step·.Chosen (choice·.Tlc place (way·.Preimage pairPlace)) (key·.Tlc key) ≡ stepOf time place pending (ready pairPlace key)
   unfolding stepOf
-  step-ready pair key = refl
+  step-ready pairPlace key = refl
 
   -- before the expiry has passed
   module _ (ms : ℕ) (e : time ≤ ms) where
@@ -117,15 +100,15 @@ module _ (time place pending : ℕ) where
     falls-before = rw (le-ltb ms time e)
 
     -- with a key and without
-    pub timeout-early : (pair key : Found) → step·.Pending pending ≡ stepOf time place pending (byKey true ms pair key)
+    pub timeout-early : (foundPair key : Found) → step·.Pending pending ≡ stepOf time place pending (byKey true ms foundPair key)
     unfolding byKey
-    timeout-early pair (found·.At key) = timeout-before key
-    timeout-early pair found·.None = step-passed noKey
+    timeout-early foundPair (found·.At key) = timeout-before key
+    timeout-early foundPair found·.None = step-passed noKey
 
-    pub preimage-early : (pair key : Found) → pair ≡ found·.None → step·.Pending pending ≡ stepOf time place pending (byKey false ms pair key)
+    pub preimage-early : (foundPair key : Found) → foundPair ≡ found·.None → step·.Pending pending ≡ stepOf time place pending (byKey false ms foundPair key)
     unfolding byKey byPair
-    preimage-early pair (found·.At key) f = rw f falls-before
-    preimage-early pair found·.None f = step-passed noKey
+    preimage-early foundPair (found·.At key) f = rw f falls-before
+    preimage-early foundPair found·.None f = step-passed noKey
 
   -- and behind it
   module _ (ms : ℕ) (e : ms < time) where
@@ -139,51 +122,34 @@ module _ (time place pending : ℕ) where
 
 -- ---- one TLC of a later settlement
 
-module _ (ms : ℕ) (pair key : Found) where
+module _ (ms : ℕ) (foundPair key : Found) where
   -- without a key
-  pub key-missing : (isTimeout : Bool) → found·.None ≡ key → passed noKey ≡ byKey isTimeout ms pair key
+  pub key-missing : (isTimeout : Bool) → found·.None ≡ key → passed noKey ≡ byKey isTimeout ms foundPair key
   unfolding byKey
   key-missing isTimeout f = rw (← f)
 
   module _ (k : ℕ) (f : found·.At k ≡ key) where
     -- timeout kind
-    pub key-timeout : timeout ms k ≡ byKey true ms pair key
+    pub key-timeout : timeout ms k ≡ byKey true ms foundPair key
     unfolding byKey
     key-timeout = rw (← f)
 
     -- preimage kind, with a pair that counts
-    pub key-ready : (p : ℕ) → pair ≡ found·.At p → ready p k ≡ byKey false ms pair key
+    pub key-ready : (p : ℕ) → foundPair ≡ found·.At p → ready p k ≡ byKey false ms foundPair key
     unfolding byKey byPair
     key-ready p g = rw (g, ← f)
 
     -- and without
-    pub key-falls : pair ≡ found·.None → falls ms ≡ byKey false ms pair key
+    pub key-falls : foundPair ≡ found·.None → falls ms ≡ byKey false ms foundPair key
     unfolding byKey byPair
     key-falls g = rw (g, ← f)
 
--- what the code reads of the record
-module _ (h : ℕ) (t l : List ℕ) (k : validHashLen h ≡ true) (n : length t ≡ 98 + h) (e : l ≡ part t 33 (65 + h)) (x : TlcRead) (f : x ≡ readTlc h l 0) where
-  -- is all there
-  read-there : x ≡ tlc·.Record (tlcAt h (trackedRecord t) 0)
-  read-there =
-      let r : l ≡ trackedRecord t = e ∙ record-of t h n in
-      f ∙ ap (λ (s : List ℕ). readTlc h s 0) r ∙ tlc-whole h (trackedRecord t) 0 k (omega (arith, length-drop 33 t))
-
-  -- its numbers
-  pub read-tlc : (tlc : Tlc) → x ≡ tlc·.Record tlc → tlc ≡ tlcAt h (trackedRecord t) 0
-  read-tlc tlc g = ap record-in (sym g ∙ read-there)
-    where
-      record-in : TlcRead → Tlc
-      record-in (tlc·.Record r) = r
-      record-in (tlc·.Refused number place) = tlc
-
-  -- so it is never turned down
-  pub read-never : {A : Type 0} (number place : ℕ) → x ≡ tlc·.Refused number place → A
-  read-never number place g = absurd (subst Taken (sym read-there ∙ g) tt)
-    where
-      Taken : TlcRead → Type 0
-      Taken (tlc·.Record r) = Unit {0}
-      Taken (tlc·.Refused number place) = ⊥
+-- what the code reads of the record is all there
+pub read-there : (h : ℕ) (t l : List ℕ) → validHashLen h ≡ true → length t ≡ 98 + h → l ≡ part t 33 (65 + h) → (x : TlcRead) → x ≡ readTlc h l 0
+    → x ≡ tlc·.Whole (tlcAt h (trackedRecord t) 0)
+read-there h t l k n e x f =
+    let r : l ≡ trackedRecord t = e ∙ record-of t h n in
+    f ∙ ap (λ (s : List ℕ). readTlc h s 0) r ∙ tlc-whole h (trackedRecord t) 0 k (omega (arith, length-drop 33 t))
 
 module _ (h : ℕ) (forRemote : Bool) (tlcs ps : List (List ℕ)) (t : List ℕ) (tlc : Tlc) (r : tlc ≡ tlcAt h (trackedRecord t) 0) (x : Expiry) (e : x ≡ absoluteExpiry (tlc .expiry)) where
   -- a TLC without an expiry
@@ -219,9 +185,9 @@ module _ (forRemote : Bool) (ps : List (List ℕ)) (d : Dues) (place : ℕ) (s t
 
     module _ (f : d .third ≡ true) (found : Found) (p : found ≡ countingPair ps t) where
       -- and behind it, with a preimage that counts
-      pub first-ready : (pair : ℕ) → found ≡ found·.At pair → ready pair place ≡ firstVerdict forRemote ps d place s t
+      pub first-ready : (pairPlace : ℕ) → found ≡ found·.At pairPlace → ready pairPlace place ≡ firstVerdict forRemote ps d place s t
       unfolding firstVerdict byPair
-      first-ready pair q = rw (← g, k, f, ← p, q)
+      first-ready pairPlace q = rw (← g, k, f, ← p, q)
 
       -- without one, the full delay due
       pub first-falls : (ms : ℕ) → ms ≡ expiryMs s → found ≡ found·.None → d .full ≡ true → falls ms ≡ firstVerdict forRemote ps d place s t
@@ -269,28 +235,21 @@ dues-as h third two full n a b c e f g = rw (e, f, g)
 abbrev pub VerdictWithin : ℕ → ℕ → Verdict → Type 0
 VerdictWithin n m (passed why) = Unit {0}
 VerdictWithin n m (timeout ms key) = key < n
-VerdictWithin n m (ready pair key) = (pair < m) × (key < n)
+VerdictWithin n m (ready pairPlace key) = (pairPlace < m) × (key < n)
 VerdictWithin n m (falls ms) = Unit {0}
-
--- only a settlement TLC of the list is found
-key-below : (ts : List (List ℕ)) (start ours : List ℕ) (i n : ℕ) → i + length ts ≤ n → FoundBelow n (findKey i ts start ours)
-unfolding findKey
-key-below [] start ours i n h = tt
-key-below (t ∷ ts) start ours i n h =
-    by-each (FoundBelow n) (same (take (length start) (hash t)) start && isKey t ours) _ _ (omega arith) (key-below ts start ours (i + 1) n (omega arith))
 
 module _ (forRemote : Bool) (ps : List (List ℕ)) where
   -- of a later settlement
   later-within : (h : ℕ) (tlcs : List (List ℕ)) (t : List ℕ) → VerdictWithin (length tlcs) (length ps) (laterVerdict h forRemote tlcs ps t)
   unfolding laterVerdict keyOf byExpiry byKey byPair
   later-within h tlcs t =
-      go (absoluteExpiry (tlcAt h (trackedRecord t) 0 .expiry)) (countingPair ps t) _ (counting-below ps t) (key-below tlcs _ _ _ (length tlcs) (omega arith))
+      go (absoluteExpiry (tlcAt h (trackedRecord t) 0 .expiry)) (countingPair ps t) _ (counting-below ps t) (found-below _ tlcs 0 (length tlcs) (omega arith))
     where
       kind : Bool
       kind = timeoutKind forRemote (isOffered (tlcAt h (trackedRecord t) 0))
 
       pair-within : (ms key : ℕ) → key < length tlcs → (p : Found) → FoundBelow (length ps) p → VerdictWithin (length tlcs) (length ps) (byPair true ms key p)
-      pair-within ms key g (found·.At pair) f = (f, g)
+      pair-within ms key g (found·.At pairPlace) f = (f, g)
       pair-within ms key g found·.None f = tt
 
       go : (x : Expiry) (p k : Found) → FoundBelow (length ps) p → FoundBelow (length tlcs) k → VerdictWithin (length tlcs) (length ps) (byExpiry kind p k x)
@@ -307,7 +266,7 @@ module _ (forRemote : Bool) (ps : List (List ℕ)) where
       (by-each (VerdictWithin n (length ps)) (d .third) _ _ (go (countingPair ps t) (counting-below ps t)) tt)
     where
       go : (p : Found) → FoundBelow (length ps) p → VerdictWithin n (length ps) (byPair (d .full) (expiryMs s) place p)
-      go (found·.At pair) f = (f, h)
+      go (found·.At pairPlace) f = (f, h)
       go found·.None f = by-each (VerdictWithin n (length ps)) (d .full) _ _ tt tt
 
   -- of either, at a place that it reaches

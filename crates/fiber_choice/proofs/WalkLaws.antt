@@ -13,7 +13,6 @@ use Rattle.fiber_bytes.specs.Bytes.{part}
 use Rattle.fiber_bytes.proofs.CaseLaws.{by-each}
 use Rattle.fiber_choice.specs.declared.kinds.Choice.{Choice}
 use Rattle.fiber_choice.specs.declared.kinds.Key.{Key}
-use Rattle.fiber_choice.specs.declared.kinds.Key.the-variants as key·
 use Rattle.fiber_choice.specs.declared.kinds.Stage.{Stage}
 use Rattle.fiber_choice.specs.declared.kinds.Stage.the-variants as stage·
 use Rattle.fiber_choice.specs.declared.kinds.Step.{Step}
@@ -39,7 +38,7 @@ step-falls : (time place pending : ℕ) (v : Verdict) → Falls pending (stepOf 
 unfolding stepOf
 step-falls time place pending (passed why) = omega arith
 step-falls time place pending (timeout ms key) = by-each (Falls pending) (ltb ms time) _ _ tt (omega arith)
-step-falls time place pending (ready pair key) = tt
+step-falls time place pending (ready pairPlace key) = tt
 step-falls time place pending (falls ms) = by-each (λ (n : ℕ). pending ≤ n + 1) (ltb ms time) _ _ (omega arith) (omega arith)
 
 module _ (h : ℕ) (forRemote : Bool) (time : ℕ) (tlcs ps : List (List ℕ)) (stage : Stage) where
@@ -141,7 +140,7 @@ module _ (n k m : ℕ) where
   unfolding stepOf Within Below
   step-within time place pending h (passed why) f = tt
   step-within time place pending h (timeout ms key) f = by-each (StepWithin n k m) (ltb ms time) _ _ ((h, tt), f) tt
-  step-within time place pending h (ready pair key) f = ((h, f .0), f .1)
+  step-within time place pending h (ready pairPlace key) f = ((h, f .0), f .1)
   step-within time place pending h (falls ms) f = tt
 
   onward-within : (w : Step) (rest : ℕ → Step) → StepWithin n k m w → ((p : ℕ) → StepWithin n k m (rest p)) → StepWithin n k m (onward w rest)

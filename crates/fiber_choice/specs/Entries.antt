@@ -1,11 +1,13 @@
 -- The lists that the host lends, flat, one entry behind the other; document 01, "What the host lends".
 use Prim.Native.Nat.{ℕ, _+_, _/_, _%_}
-use mathlib.Core.Bool.{Bool, true, false, _&&_}
+use mathlib.Core.Bool.{Bool, true, false, cond, _&&_}
 use mathlib.Core.List.{List, [], _∷_, map}
 use lib.ListN.{length, getD, drop}
 use lib.Dec.{eqb, leb}
 use Rattle.fiber_bytes.specs.Bytes.{part, le}
-use Rattle.fiber_witness.specs.Witness.{recordLen, records}
+use Rattle.fiber_choice.specs.declared.kinds.Found.{Found}
+use Rattle.fiber_choice.specs.declared.kinds.Found.the-variants as found·
+use Rattle.fiber_witness.specs.Witness.{recordLen, chunks}
 
 -- whether two lists of bytes are the same
 unfoldable pub same : List ℕ → List ℕ → Bool
@@ -24,7 +26,7 @@ sameLists (x ∷ xs) (y ∷ ys) = same x y && sameLists xs ys
 -- ---- lists of entries
 
 unfoldable pub entries : ℕ → List ℕ → List (List ℕ)
-entries size s = records size (length s / size) s
+entries size s = chunks size (length s / size) s
 
 abbrev pub wholeEntries : ℕ → List ℕ → Bool
 wholeEntries size s = eqb (length s % size) 0
@@ -32,6 +34,13 @@ wholeEntries size s = eqb (length s % size) 0
 unfoldable pub all : (List ℕ → Bool) → List (List ℕ) → Bool
 all good [] = true
 all good (e ∷ es) = good e && all good es
+
+-- where the first one is that passes a test, place i being the first of the list's
+unfoldable pub findFirst : (List ℕ → Bool) → ℕ → List (List ℕ) → Found
+findFirst test i [] = found·.None
+findFirst test i (e ∷ es) =
+    let next = findFirst test (i + 1) es in
+    cond (test e) (found·.At i) next
 
 -- ---- settlement TLC, 124 bytes: received 0/1, algorithm 0 (CKB) or 1 (SHA-256), amount 16, hash 32, expiry in ms 8, local key 33,
 -- remote key 33

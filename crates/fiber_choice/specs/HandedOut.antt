@@ -20,15 +20,6 @@ use Rattle.fiber_choice.specs.declared.kinds.ChoiceAnswer.{ChoiceAnswer}
 use Rattle.fiber_choice.specs.declared.kinds.ChoiceAnswer.the-variants as answer·
 use Rattle.fiber_choice.specs.Entries.{trackedRecords, pairPreimage}
 
--- a choice with its key and its delay, the shares before it, and the place of its record
-pub record Picked : Type 0 where
-  pub remote : List ℕ
-  pub local : List ℕ
-  pub choice : Choice
-  pub key : Key
-  pub delay : Delay
-  pub place : ℕ
-
 -- ---- the unlock, with 65 zero signature bytes
 
 -- its byte: 0xFF or 0xFE for a share, else the TLC's place
@@ -39,8 +30,10 @@ choiceByte (choice·.Tlc place way) = place
 
 -- with flag 1 and the preimage for a TLC that is taken by one
 unfoldable pub unlockOf : List (List ℕ) → Choice → List ℕ
-unlockOf ps (choice·.Tlc place (way·.Preimage pair)) = unlockBytes (record { byte = place; flag = true }) (replicate 65 0) (pairPreimage (getD ps pair []))
-unlockOf ps (choice·.Tlc place way·.Timeout) = unlockBytes (record { byte = place; flag = false }) (replicate 65 0) []
+unlockOf ps (choice·.Tlc place (way·.Preimage pairPlace)) =
+    unlockBytes (record { byte = choiceByte (choice·.Tlc place (way·.Preimage pairPlace)); flag = true }) (replicate 65 0) (pairPreimage (getD ps pairPlace []))
+unlockOf ps (choice·.Tlc place way·.Timeout) =
+    unlockBytes (record { byte = choiceByte (choice·.Tlc place way·.Timeout); flag = false }) (replicate 65 0) []
 unlockOf ps (choice·.Share side) = unlockBytes (record { byte = choiceByte (choice·.Share side); flag = false }) (replicate 65 0) []
 
 -- ---- the state after it
@@ -71,26 +64,27 @@ unfoldable pub recordSize : ℕ → Choice → ℕ
 recordSize h (choice·.Share side) = 0
 recordSize h (choice·.Tlc place way) = recordLen h
 
--- the unlock, the state before it and the new args, joined: 13 at their length where they have no room
-unfoldable pub handedOut : ℕ → List ℕ → List (List ℕ) → List (List ℕ) → Picked → List ℕ → Outcome ChoiceAnswer
-handedOut h args tracked ps p out =
+-- Of a choice with its key and its delay, over shares, the record being at a place: the unlock, the state before it and the new args, joined;
+-- 13 at their length where they have no room.
+unfoldable pub handedOut : ℕ → List ℕ → List (List ℕ) → List (List ℕ) → List ℕ → List ℕ → Choice → Key → Delay → ℕ → List ℕ → Outcome ChoiceAnswer
+handedOut h args tracked ps remote local choice key delay place out =
     let tlcs = trackedRecords tracked in
-    let unlock = unlockOf ps (p .choice) in
-    let before = stateBytes tlcs (p .remote) (p .local) in
-    let new = newArgs args (stateAfter tlcs (p .remote) (p .local) (takes (p .choice))) in
+    let unlock = unlockOf ps choice in
+    let before = stateBytes tlcs remote local in
+    let new = newArgs args (stateAfter tlcs remote local (takes choice)) in
     let joined = unlock ++ before ++ new in
     cond (leb (length joined) (length out))
     (record {
       answer = answer·.Chosen (record {
-        choice = p .choice;
-        amount = choiceAmount tlcs (p .remote) (p .local) (p .choice);
-        key = p .key;
-        delay = p .delay;
+        choice = choice;
+        amount = choiceAmount tlcs remote local choice;
+        key = key;
+        delay = delay;
         «unlock_len» = length unlock;
         «state_len» = length before;
         «args_len» = length new;
-        place = p .place;
-        len = recordSize h (p .choice);
+        place = place;
+        len = recordSize h choice;
       });
       bytes = sets out 0 joined;
     })

@@ -1,25 +1,22 @@
 -- Which stored preimage counts; document 01, "What the host lends".
-use Prim.Native.Nat.{ℕ, _+_}
+use Prim.Native.Nat.{ℕ}
 use mathlib.Core.Bool.{Bool, cond}
-use mathlib.Core.List.{List, [], _∷_}
+use mathlib.Core.List.{List, []}
 use lib.ListN.{getD}
 use lib.Dec.{eqb}
 use Rattle.fiber_blake2b.specs.Blake2b.{ckbHash}
 use Rattle.fiber_sha256.specs.Sha256.{sha256}
 use Rattle.fiber_choice.specs.declared.kinds.Found.{Found}
 use Rattle.fiber_choice.specs.declared.kinds.Found.the-variants as found·
-use Rattle.fiber_choice.specs.Entries.{same, trackedHash, trackedAlgorithm, pairHash, pairPreimage}
+use Rattle.fiber_choice.specs.Entries.{same, findFirst, trackedHash, trackedAlgorithm, pairHash, pairPreimage}
 
 -- the hash under an algorithm: 1 is SHA-256, 0 CKB's hash
 unfoldable pub digest : ℕ → List ℕ → List ℕ
 digest algorithm s = cond (eqb algorithm 1) (sha256 s) (ckbHash s)
 
--- the first pair with a hash; the first of the list is at place i
-unfoldable pub findPair : ℕ → List (List ℕ) → List ℕ → Found
-findPair i [] h = found·.None
-findPair i (p ∷ ps) h =
-    let next = findPair (i + 1) ps h in
-    cond (same (pairHash p) h) (found·.At i) next
+-- the first pair with a hash
+unfoldable pub findPair : List (List ℕ) → List ℕ → Found
+findPair ps hash = findFirst (λ p. same (pairHash p) hash) 0 ps
 
 -- it counts if its preimage has that hash under the tracked TLC's algorithm
 unfoldable pub countsAt : List (List ℕ) → List ℕ → ℕ → Bool
@@ -31,4 +28,4 @@ ifCounts ps t found·.None = found·.None
 
 -- only the first pair with a tracked TLC's hash is looked at
 unfoldable pub countingPair : List (List ℕ) → List ℕ → Found
-countingPair ps t = ifCounts ps t (findPair 0 ps (trackedHash t))
+countingPair ps t = ifCounts ps t (findPair ps (trackedHash t))

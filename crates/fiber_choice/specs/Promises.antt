@@ -33,7 +33,7 @@ Decides q isLater w out d = choiceOf q isLater w out .answer ≡ answer·.Chosen
 
 -- the records of the TLCs before the unlock: those that stand after the witness's own unlocks, or those that are built
 unfoldable pub tlcsLeft : ℕ → List ℕ → Unlocked → List (List ℕ)
-tlcsLeft h w (fine n share t) = standing h w n (t .settled)
+tlcsLeft h w (fine n sharePlace t) = standing h w n (t .settled)
 tlcsLeft h w (faulty number place) = []
 
 abbrev pub tlcsBefore : Request → Bool → List ℕ → List (List ℕ)
@@ -47,7 +47,7 @@ KeyIn n (key·.Tlc place) = place < n
 abbrev pub PairIn : ℕ → Choice → Type 0
 PairIn m (choice·.Share side) = Unit {0}
 PairIn m (choice·.Tlc place way·.Timeout) = Unit {0}
-PairIn m (choice·.Tlc place (way·.Preimage pair)) = pair < m
+PairIn m (choice·.Tlc place (way·.Preimage pairPlace)) = pairPlace < m
 
 -- ---- a later time
 

@@ -8,9 +8,7 @@ use Rattle.fiber_bytes.specs.Bytes.{part, le}
 use Rattle.fiber_since.specs.declared.epoch.Epoch.{Epoch}
 use Rattle.fiber_since.specs.declared.epoch.Scaled.{Scaled}
 use Rattle.fiber_since.specs.declared.epoch.Scaled.the-variants as scaled·
-use Rattle.fiber_since.specs.declared.since.Metric.{Metric}
-use Rattle.fiber_since.specs.declared.since.Metric.the-variants as metric·
-use Rattle.fiber_since.specs.Since.{since}
+use Rattle.fiber_since.specs.Since.{byMetric, since}
 use Rattle.fiber_since.specs.Epoch.{epochOf, withinBits}
 use Rattle.fiber_types.specs.declared.tlc.Amount.{Amount}
 use Rattle.fiber_types.specs.Records.{validHashLen}
@@ -81,13 +79,8 @@ validRequest q =
 
 -- ---- the delay in the lock args: 10 below 36 bytes, 11 where bytes 20 to 27 are no relative epoch since
 
-unfoldable pub ofMetric : Metric → ℕ → Scaled
-ofMetric metric·.Block v = scaled·.Refused 11 0
-ofMetric metric·.Epoch v = scaled·.Epoch (epochOf v)
-ofMetric metric·.Timestamp v = scaled·.Refused 11 0
-ofMetric metric·.None v = scaled·.Refused 11 0
-
 unfoldable pub delayOf : List ℕ → Scaled
 delayOf args =
     let s = since (le (part args 20 8)) in
-    cond (ltb (length args) 36) (scaled·.Refused 10 0) (cond (s .relative) (ofMetric (s .metric) (s .value)) (scaled·.Refused 11 0))
+    let none = scaled·.Refused 11 0 in
+    cond (ltb (length args) 36) (scaled·.Refused 10 0) (cond (s .relative) (byMetric (scaled·.Epoch (epochOf (s .value))) none none (s .metric)) none)

@@ -12,7 +12,7 @@ use Rattle.fiber_since.specs.Epoch.{scaled}
 use Rattle.fiber_choice.specs.declared.kinds.Way.the-variants as way·
 use Rattle.fiber_choice.specs.declared.kinds.Choice.{Choice}
 use Rattle.fiber_choice.specs.declared.kinds.Choice.the-variants as choice·
-use Rattle.fiber_choice.specs.declared.kinds.Key.{Key}
+use Rattle.fiber_choice.specs.declared.kinds.Delay.{Delay}
 use Rattle.fiber_choice.specs.declared.kinds.Delay.the-variants as delay·
 use Rattle.fiber_choice.specs.declared.kinds.Stage.{Stage}
 use Rattle.fiber_choice.specs.declared.kinds.Stage.the-variants as stage·
@@ -30,16 +30,17 @@ use Rattle.fiber_choice.specs.FirstRecords.{hashOf, firstRecords, firstR
 use Rattle.fiber_choice.specs.Walk.{ourShare}
 use Rattle.fiber_choice.specs.Verdicts.{duesBy, walked}
 use Rattle.fiber_types.specs.Records.{Outcome, unwritten}
-use Rattle.fiber_choice.specs.HandedOut.{Picked, handedOut}
+use Rattle.fiber_choice.specs.HandedOut.{handedOut}
 
 -- the walk of a request's TLCs
 abbrev pub walkedBy : Request → Stage → Step
 walkedBy q stage = walked (q .h) (q .forRemote) (q .time) (settlementTlcs q) (pairs q) stage (trackedTlcs q)
 
--- what is chosen is handed out; 22 where nothing is
-unfoldable pub handStep : Request → (Choice → Key → Picked) → List ℕ → Step → Outcome ChoiceAnswer
-handStep q picked out (step·.Chosen choice key) = handedOut (q .h) (q .args) (trackedTlcs q) (pairs q) (picked choice key) out
-handStep q picked out (step·.Pending pending) = unwritten (answer·.Wait 22 0) out
+-- what is chosen is handed out, over shares, with the delay and the place that go with it; 22 where nothing is chosen
+unfoldable pub orWait : Request → List ℕ → List ℕ → (Choice → Delay) → (Choice → ℕ) → List ℕ → Step → Outcome ChoiceAnswer
+orWait q remote local delay place out (step·.Chosen choice key) =
+    handedOut (q .h) (q .args) (trackedTlcs q) (pairs q) remote local choice key (delay choice) (place choice) out
+orWait q remote local delay place out (step·.Pending pending) = unwritten (answer·.Wait 22 0) out
 
 -- before the walk: a row, or what the walk comes to
 unfoldable pub ifReady : Ready → List ℕ → Outcome ChoiceAnswer → Outcome ChoiceAnswer
@@ -74,23 +75,18 @@ unfoldable pub laterPlace : ℕ → List ℕ → Choice → ℕ
 laterPlace h firsts (choice·.Share side) = 0
 laterPlace h firsts (choice·.Tlc place way) = 2 + getD firsts place 0 * recordLen h
 
--- no delay
-abbrev pub laterPicked : ℕ → List ℕ → List ℕ → List ℕ → Choice → Key → Picked
-laterPicked h firsts remote local choice key =
-    record { remote = remote; local = local; choice = choice; key = key; delay = delay·.None; place = laterPlace h firsts choice }
-
--- of a state with these TLCs and shares, the TLCs being those at first places of the witness
+-- of a state with these TLCs and shares, the TLCs being those at first places of the witness; no delay
 unfoldable pub laterState : Request → List ℕ → List (List ℕ) → List ℕ → List ℕ → List ℕ → Outcome ChoiceAnswer
 laterState q out tlcs firsts remote local =
     let ours = cond (q .forRemote) local remote in
     let other = cond (q .forRemote) remote local in
-    ifReady (laterReady q tlcs ours) out (handStep q (laterPicked (q .h) firsts remote local) out (laterChoice q other))
+    ifReady (laterReady q tlcs ours) out (orWait q remote local (λ choice. delay·.None) (laterPlace (q .h) firsts) out (laterChoice q other))
 
 -- a witness is given; update first
 unfoldable pub laterOf : Request → List ℕ → List ℕ → Unlocked → Outcome ChoiceAnswer
-laterOf q w out (fine n share t) =
+laterOf q w out (fine n sharePlace t) =
     laterState q out (standing (q .h) w n (t .settled)) (unsettled (t .settled) 0 n)
-    (shareLeft (t .remote) (part w share 36)) (shareLeft (t .local) (part w (share + 36) 36))
+    (shareLeft (t .remote) (part w sharePlace 36)) (shareLeft (t .local) (part w (sharePlace + 36) 36))
 laterOf q w out (faulty number place) = unwritten (answer·.Refused number place) out
 
 unfoldable pub later : Request → List ℕ → List ℕ → Outcome ChoiceAnswer
@@ -102,26 +98,18 @@ later q w out = laterOf q w out (unlocked (q .h) w)
 unfoldable pub firstDelay : Epoch → Epoch → Epoch → Choice → Epoch
 firstDelay third twoThirds full (choice·.Share side) = full
 firstDelay third twoThirds full (choice·.Tlc place way·.Timeout) = twoThirds
-firstDelay third twoThirds full (choice·.Tlc place (way·.Preimage pair)) = third
+firstDelay third twoThirds full (choice·.Tlc place (way·.Preimage pairPlace)) = third
 
 -- the record is a part of the tracked list
 unfoldable pub firstPlace : ℕ → Choice → ℕ
 firstPlace h (choice·.Share side) = 0
 firstPlace h (choice·.Tlc place way) = place * trackedLen h + 33
 
-abbrev pub firstPicked : Request → Epoch → Epoch → Epoch → Choice → Key → Picked
-firstPicked q third twoThirds full choice key = record {
-  remote = firstRemote (q .forRemote) (q .settlement);
-  local = firstLocal (q .forRemote) (q .settlement);
-  choice = choice;
-  key = key;
-  delay = delay·.Epoch (firstDelay third twoThirds full choice);
-  place = firstPlace (q .h) choice;
-}
-
 unfoldable pub firstThirds : Request → List ℕ → Epoch → Scaled → Scaled → Outcome ChoiceAnswer
 firstThirds q out full (scaled·.Epoch third) (scaled·.Epoch twoThirds) =
-    handStep q (firstPicked q third twoThirds full) out (walkedBy q (stage·.First (duesBy (q .header) third twoThirds full (q .current))))
+    orWait q (firstRemote (q .forRemote) (q .settlement)) (firstLocal (q .forRemote) (q .settlement))
+    (λ choice. delay·.Epoch (firstDelay third twoThirds full choice)) (firstPlace (q .h)) out
+    (walkedBy q (stage·.First (duesBy (q .header) third twoThirds full (q .current))))
 firstThirds q out full (scaled·.Epoch third) (scaled·.Refused number place) = unwritten (answer·.Refused number place) out
 firstThirds q out full (scaled·.Refused number place) twoThirds = unwritten (answer·.Refused number place) out
 

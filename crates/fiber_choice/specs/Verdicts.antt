@@ -4,20 +4,19 @@ use mathlib.Core.Bool.{Bool, true, cond, _&&_}
 use mathlib.Core.List.{List, [], _∷_}
 use lib.ListN.{length, getD, take}
 use lib.Dec.{eqb}
-use Rattle.fiber_bytes.specs.Bytes.{part}
 use Rattle.fiber_since.specs.declared.epoch.Epoch.{Epoch}
 use Rattle.fiber_since.specs.declared.since.Expiry.{Expiry}
 use Rattle.fiber_since.specs.declared.since.Expiry.the-variants as expiry·
 use Rattle.fiber_since.specs.Since.{absoluteExpiry}
 use Rattle.fiber_since.specs.Epoch.{due}
-use Rattle.fiber_types.specs.Records.{isOffered, tlcAt}
+use Rattle.fiber_types.specs.Records.{isOffered, tlcAt, paymentHash, keyHashIn}
 use Rattle.fiber_choice.specs.declared.kinds.Found.{Found}
 use Rattle.fiber_choice.specs.declared.kinds.Found.the-variants as found·
 use Rattle.fiber_choice.specs.declared.kinds.Dues.{Dues}
 use Rattle.fiber_choice.specs.declared.kinds.Stage.{Stage}
 use Rattle.fiber_choice.specs.declared.kinds.Stage.the-variants as stage·
 use Rattle.fiber_choice.specs.declared.kinds.Step.{Step}
-use Rattle.fiber_choice.specs.Entries.{same, received, hash, expiryMs, localKey, trackedRecord}
+use Rattle.fiber_choice.specs.Entries.{same, findFirst, received, hash, expiryMs, localKey, trackedRecord}
 use Rattle.fiber_choice.specs.FirstRecords.{hashOf}
 use Rattle.fiber_choice.specs.Preimages.{countingPair}
 use Rattle.fiber_choice.specs.Walk.{timeoutKind, Verdict, passed, noExpiry, noKey, notDue, noPreimage, timeout, ready, falls, walk, orShare}
@@ -25,33 +24,27 @@ use Rattle.fiber_choice.specs.Walk.{timeoutKind, Verdict, passed, noExpi
 -- ---- later settlement
 
 -- Its key is the first settlement TLC whose hash begins with its h bytes and whose local key hashes to our slot's hash in the TLC.
-abbrev pub isKey : List ℕ → List ℕ → Bool
-isKey t ours = same (hashOf (localKey t)) ours
+unfoldable pub isKey : List ℕ → List ℕ → List ℕ → Bool
+isKey start ours t = same (take (length start) (hash t)) start && same (hashOf (localKey t)) ours
 
-unfoldable pub findKey : ℕ → List (List ℕ) → List ℕ → List ℕ → Found
-findKey i [] start ours = found·.None
-findKey i (t ∷ ts) start ours =
-    let next = findKey (i + 1) ts start ours in
-    cond (same (take (length start) (hash t)) start && isKey t ours) (found·.At i) next
-
--- of a record: its hash, and our slot's key hash
+-- of a record; our slot is local with for_remote
 unfoldable pub keyOf : ℕ → Bool → List (List ℕ) → List ℕ → Found
-keyOf h forRemote tlcs r = findKey 0 tlcs (part r 17 h) (part r (cond forRemote (37 + h) (17 + h)) 20)
+keyOf h forRemote tlcs r = findFirst (isKey (paymentHash h r) (keyHashIn h forRemote r)) 0 tlcs
 
 -- preimage kind, with its key: chosen with a counting preimage; without one, pending falls if the full delay is due and time > expiry
 unfoldable pub byPair : Bool → ℕ → ℕ → Found → Verdict
-byPair full ms key (found·.At pair) = ready pair key
+byPair full ms key (found·.At pairPlace) = ready pairPlace key
 byPair full ms key found·.None = cond full (falls ms) (passed noPreimage)
 
 -- without a key passed over; no delay is left to wait for
 unfoldable pub byKey : Bool → ℕ → Found → Found → Verdict
-byKey isTimeout ms pair (found·.At key) = cond isTimeout (timeout ms key) (byPair true ms key pair)
-byKey isTimeout ms pair found·.None = passed noKey
+byKey isTimeout ms foundPair (found·.At key) = cond isTimeout (timeout ms key) (byPair true ms key foundPair)
+byKey isTimeout ms foundPair found·.None = passed noKey
 
 -- without an absolute timestamp expiry passed over
 unfoldable pub byExpiry : Bool → Found → Found → Expiry → Verdict
-byExpiry isTimeout pair key (expiry·.At ms) = byKey isTimeout ms pair key
-byExpiry isTimeout pair key expiry·.None = passed noExpiry
+byExpiry isTimeout foundPair foundKey (expiry·.At ms) = byKey isTimeout ms foundPair foundKey
+byExpiry isTimeout foundPair foundKey expiry·.None = passed noExpiry
 
 -- a tracked TLC, among the settlement TLCs and the stored preimages
 unfoldable pub laterVerdict : ℕ → Bool → List (List ℕ) → List (List ℕ) → List ℕ → Verdict

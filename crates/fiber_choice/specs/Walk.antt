@@ -1,7 +1,7 @@
 -- The walk over the TLCs, in order; document 01, "The choice". Each TLC has a verdict that does not depend on the time; a step is that
 -- verdict at a time. Both settlements walk so.
 use Prim.Native.Nat.{ℕ, _+_, _-_}
-use mathlib.Core.Bool.{Bool, false, true, cond, _&&_}
+use mathlib.Core.Bool.{Bool, cond, _&&_, not}
 use mathlib.Core.List.{List, [], _∷_}
 use lib.Dec.{eqb, ltb}
 use Rattle.fiber_choice.specs.declared.kinds.Side.{Side}
@@ -23,7 +23,7 @@ ourShare forRemote = step·.Chosen (choice·.Share (ourSide forRemote)) key·.Se
 
 -- timeout kind: offered with for_remote, received without; the others are preimage kind
 unfoldable pub timeoutKind : Bool → Bool → Bool
-timeoutKind forRemote offered = cond forRemote offered (cond offered false true)
+timeoutKind forRemote offered = cond forRemote offered (not offered)
 
 -- ---- a TLC
 
@@ -44,7 +44,7 @@ pub data Verdict : Type 0 where
   -- timeout kind: chosen if time > expiry
   timeout : (ms key : ℕ) → Verdict
   -- preimage kind, and a preimage counts: chosen, expired or not
-  ready : (pair key : ℕ) → Verdict
+  ready : (pairPlace key : ℕ) → Verdict
   -- preimage kind without one: pending falls if time > expiry
   falls : (ms : ℕ) → Verdict
 
@@ -53,7 +53,7 @@ unfoldable pub stepOf : ℕ → ℕ → ℕ → Verdict → Step
 stepOf time place pending (passed why) = step·.Pending pending
 stepOf time place pending (timeout ms key) =
     cond (ltb ms time) (step·.Chosen (choice·.Tlc place way·.Timeout) (key·.Tlc key)) (step·.Pending pending)
-stepOf time place pending (ready pair key) = step·.Chosen (choice·.Tlc place (way·.Preimage pair)) (key·.Tlc key)
+stepOf time place pending (ready pairPlace key) = step·.Chosen (choice·.Tlc place (way·.Preimage pairPlace)) (key·.Tlc key)
 stepOf time place pending (falls ms) = step·.Pending (cond (ltb ms time) (pending - 1) pending)
 
 -- ---- the walk

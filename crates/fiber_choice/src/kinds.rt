@@ -2,13 +2,29 @@
 use fiber_types::epoch::Epoch;
 use fiber_types::tlc::Amount;
 
-// The bytes of a settlement TLC, and of a pair of hash and preimage.
+// The bytes of a settlement TLC.
 pub const SETTLEMENT_TLC: usize = 124;
 
+// Where the fields of a settlement TLC begin, behind received and algorithm.
+pub const SETTLEMENT_AMOUNT: usize = 2;
+
+pub const SETTLEMENT_HASH: usize = 18;
+
+pub const SETTLEMENT_EXPIRY: usize = 50;
+
+pub const SETTLEMENT_LOCAL_KEY: usize = 58;
+
+pub const SETTLEMENT_REMOTE_KEY: usize = 91;
+
+// The bytes of a pair, and where its preimage begins.
 pub const PAIR: usize = 64;
 
-// A tracked TLC has this many bytes beside its hash of h bytes; its record begins behind the first 33.
+pub const PAIR_PREIMAGE: usize = 32;
+
+// A tracked TLC has this many bytes beside its hash of h bytes. Behind a payment hash of 32 come the algorithm and the record.
 pub const TRACKED_FIXED: usize = 98;
+
+pub const TRACKED_ALGORITHM: usize = 32;
 
 pub const TRACKED_RECORD: usize = 33;
 
@@ -113,12 +129,12 @@ pub enum ChoiceAnswer {
     Refused { number: usize, place: usize },
 }
 
-// What a choice comes to. The TLC at skip is settled, none where skip is as high as the number of TLCs; pair counts only
+// What a choice comes to. The TLC at skip is settled, none where skip is as high as the number of TLCs; the pair counts only
 // with the flag.
 pub struct Plan {
     pub byte: usize,
     pub flag: bool,
-    pub pair: usize,
+    pub pair_place: usize,
     pub skip: usize,
     pub remote: bool,
     pub local: bool,

@@ -4,6 +4,11 @@ use fiber_bytes::le64;
 use fiber_bytes::part_of;
 use fiber_bytes::put;
 use fiber_bytes::put_le64;
+use fiber_choice::kinds::SETTLEMENT_AMOUNT;
+use fiber_choice::kinds::SETTLEMENT_EXPIRY;
+use fiber_choice::kinds::SETTLEMENT_HASH;
+use fiber_choice::kinds::SETTLEMENT_LOCAL_KEY;
+use fiber_choice::kinds::SETTLEMENT_REMOTE_KEY;
 use fiber_choice::kinds::SETTLEMENT_TLC;
 use fiber_choice::kinds::TRACKED_FIXED;
 use fiber_choice::kinds::TRACKED_RECORD;
@@ -14,36 +19,44 @@ use fiber_types::tlc::Amount;
 use fiber_types::tlc::TLC_FIXED;
 use fiber_types::tlc::Tlc;
 use fiber_types::tlc::amount_at;
+use fiber_witness::state::put_record;
+use fiber_witness::witness::SHARE_AMOUNT;
 ghost use mathlib.Core.Path.{_≡_};
 ghost use mathlib.Core.Bool.{true, cond};
+ghost use mathlib.Core.List.{flatten};
 ghost use Prim.Native.Nat.{_+_, _≤_};
-ghost use lib.ListN.{length};
+ghost use lib.ListN.{length, replicate};
 ghost use lib.Seq.{sets};
 ghost use Rattle.fiber_types.specs.Records.{validHashLen};
-ghost use Rattle.fiber_witness.specs.Witness.{recordLen, flat};
 ghost use Rattle.fiber_choice.specs.Entries.{entries, all, validSettlement, settlementLen, trackedLen, trackedRecords};
 ghost use Rattle.fiber_choice.specs.FirstRecords as S;
 ghost use Rattle.fiber_choice.specs.Entries.{sameLists};
 
-// The record of a settlement TLC of 124 bytes, to the front of an output that has room for it.
-pub fn put_first(h: usize, for_remote: bool, tlc: &[u8], out: &mut [u8])
-    requires { ⌜ (validHashLen h ≡ true) × ((validSettlement (now tlc) ≡ true) × ((length (now tlc) ≡ 124) × (recordLen h ≤ length (now out)))) ⌝ }
-    ensures { λ _. ⌜ now (out .exit) ≡ sets (now (out .entry)) 0 (S.firstRecord h «for_remote» (now (tlc .entry))) ⌝ }
+// The bytes of the longest record, whose hash has 32.
+const LONGEST_RECORD: usize = 97;
+
+// The record of a settlement TLC of 124 bytes, its 65 + h bytes at the front of an array.
+pub fn first_record(h: usize, for_remote: bool, tlc: &[u8]) -> [u8; LONGEST_RECORD]
+    requires { ⌜ (validHashLen h ≡ true) × ((validSettlement (now tlc) ≡ true) × (length (now tlc) ≡ 124)) ⌝ }
+    ensures { λ r. ⌜ r ≡ sets (replicate 97 0) 0 (S.firstRecord h «for_remote» (now (tlc .entry))) ⌝ }
 {
-    let record = Tlc {
+    let numbers = Tlc {
         kind: tlc[1] * 2 + tlc[0],
-        amount: amount_at(tlc, 2),
-        expiry: 0x4000_0000_0000_0000 + le64(tlc, 50) / 1000,
+        amount: amount_at(tlc, SETTLEMENT_AMOUNT),
+        expiry: 0x4000_0000_0000_0000 + le64(tlc, SETTLEMENT_EXPIRY) / 1000,
     };
-    let local = key_hash(part_of(tlc, 58, PUBLIC_KEY));
-    let remote = key_hash(part_of(tlc, 91, PUBLIC_KEY));
+    let local = key_hash(part_of(tlc, SETTLEMENT_LOCAL_KEY, PUBLIC_KEY));
+    let remote = key_hash(part_of(tlc, SETTLEMENT_REMOTE_KEY, PUBLIC_KEY));
     let local_hash = local.bytes;
     let remote_hash = remote.bytes;
+    let hash = part_of(tlc, SETTLEMENT_HASH, h);
+    let mut record = [0u8; LONGEST_RECORD];
     if for_remote {
-        tlc::write(record, part_of(tlc, 18, h), &remote_hash, &local_hash, out);
+        tlc::write(numbers, hash, &remote_hash, &local_hash, &mut record);
     } else {
-        tlc::write(record, part_of(tlc, 18, h), &local_hash, &remote_hash, out);
+        tlc::write(numbers, hash, &local_hash, &remote_hash, &mut record);
     }
+    record
 }
 
 // Whether the records of the settlement TLCs are those of the tracked list, one for one.
@@ -57,16 +70,10 @@ pub fn same_as_tracked(h: usize, for_remote: bool, tlcs: &[u8], tracked: &[u8]) 
     if n != tracked.len() / size {
         return false;
     }
-    let mut record = [0u8; 97];
     let mut from = 0;
     let mut at = TRACKED_RECORD;
     for i in 0..n {
-        put_first(
-            h,
-            for_remote,
-            &tlcs[from..from + SETTLEMENT_TLC],
-            &mut record,
-        );
+        let record = first_record(h, for_remote, &tlcs[from..from + SETTLEMENT_TLC]);
         if !same(
             part_of(&record, 0, TLC_FIXED + h),
             part_of(tracked, at, TLC_FIXED + h),
@@ -87,8 +94,8 @@ fn share_of(key: &[u8], amount: Amount) -> [u8; 36]
     let bytes = hash.bytes;
     let mut share = [0u8; 36];
     put(&mut share, 0, &bytes);
-    put_le64(&mut share, 20, amount.low);
-    put_le64(&mut share, 28, amount.high);
+    put_le64(&mut share, SHARE_AMOUNT, amount.low);
+    put_le64(&mut share, SHARE_AMOUNT + 8, amount.high);
     share
 }
 
@@ -109,23 +116,19 @@ pub fn share_by(
     }
 }
 
-// Writes the records of n settlement TLCs from byte 1 on, each straight into the part of the output where it belongs.
+// Writes the records of the settlement TLCs from byte 1 on, each straight into the part of the output where it belongs.
 pub fn put_first_tlcs(h: usize, for_remote: bool, tlcs: &[u8], out: &mut [u8])
     requires { ⌜ (validHashLen h ≡ true) × (all validSettlement (entries settlementLen (now tlcs)) ≡ true) ⌝ }
-    requires { ⌜ 1 + length (flat (S.firstRecords h «for_remote» (entries settlementLen (now tlcs)))) ≤ length (now out) ⌝ }
-    ensures { λ _. ⌜ now (out .exit) ≡ sets (now (out .entry)) 1 (flat (S.firstRecords h «for_remote» (entries settlementLen (now (tlcs .entry))))) ⌝ }
+    requires { ⌜ 1 + length (flatten (S.firstRecords h «for_remote» (entries settlementLen (now tlcs)))) ≤ length (now out) ⌝ }
+    ensures { λ _. ⌜ now (out .exit) ≡ sets (now (out .entry)) 1 (flatten (S.firstRecords h «for_remote» (entries settlementLen (now (tlcs .entry))))) ⌝ }
 {
     let size = TLC_FIXED + h;
     let n = tlcs.len() / SETTLEMENT_TLC;
     let mut from = 0;
     let mut at = 1;
     for i in 0..n {
-        put_first(
-            h,
-            for_remote,
-            &tlcs[from..from + SETTLEMENT_TLC],
-            &mut out[at..],
-        );
+        let record = first_record(h, for_remote, &tlcs[from..from + SETTLEMENT_TLC]);
+        put_record(&record[0..size], &mut out[at..]);
         from += SETTLEMENT_TLC;
         at += size;
     }

@@ -41,7 +41,7 @@ pub fn valid_settlements(tlcs: &[u8]) -> bool
     true
 }
 
-// Tracked TLCs of size bytes: the algorithm is 0 or 1.
+// Tracked TLCs of 98 + h bytes: the algorithm is 0 or 1.
 pub fn valid_tracked(h: usize, tracked: &[u8]) -> bool
     requires { ⌜ h ≤ 32 ⌝ }
     ensures { λ r. ⌜ r ≡ S.all S.validTracked (S.entries (S.trackedLen h) (now (tracked .entry))) ⌝ }

@@ -1,5 +1,5 @@
 // First records: the state that a commitment starts with, written from what the host lends.
-use crate::built::put_first;
+use crate::built::first_record;
 use crate::built::put_first_tlcs;
 use crate::built::share_by;
 use crate::entries::valid_data;
@@ -10,6 +10,7 @@ use fiber_types::answer::Written;
 use fiber_types::tlc::Amount;
 use fiber_types::tlc::TLC_FIXED;
 use fiber_types::tlc::valid_hash_len;
+use fiber_witness::state::put_record;
 use fiber_witness::witness::SHARE;
 use fiber_witness::witness::SHARES;
 use fiber_witness::witness::STATE_FIXED;
@@ -45,7 +46,8 @@ pub fn settlement_tlc_witness(h: usize, for_remote: bool, tlc: &[u8], out: &mut 
             place: size,
         };
     }
-    put_first(h, for_remote, tlc, out);
+    let record = first_record(h, for_remote, tlc);
+    put_record(&record[0..size], out);
     Written::Bytes(size)
 }
 

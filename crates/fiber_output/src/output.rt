@@ -7,6 +7,7 @@ use fiber_choice::kinds::Decision;
 use fiber_choice::kinds::Delay;
 use fiber_choice::kinds::Key;
 use fiber_choice::kinds::PAIR;
+use fiber_choice::kinds::PAIR_PREIMAGE;
 use fiber_choice::kinds::Plan;
 use fiber_choice::kinds::Side;
 use fiber_choice::kinds::TRACKED_FIXED;
@@ -19,15 +20,18 @@ use fiber_types::tlc::TLC_FIXED;
 use fiber_types::tlc::TlcRead;
 use fiber_types::tlc::amount_at;
 use fiber_types::unlock;
+use fiber_types::unlock::LOCAL_SHARE;
+use fiber_types::unlock::REMOTE_SHARE;
 use fiber_types::unlock::UNLOCK;
 use fiber_types::unlock::UNLOCK_WITH_PREIMAGE;
 use fiber_types::unlock::Unlock;
 use fiber_witness::state::one_mark;
 use fiber_witness::state::put_state;
 use fiber_witness::unlocks::no_marks;
+use fiber_witness::witness::SHARE_AMOUNT;
 use fiber_witness::witness::STATE_FIXED;
 ghost use mathlib.Core.Path.{_≡_};
-ghost use mathlib.Core.List.{[], _∷_, _++_};
+ghost use mathlib.Core.List.{[], _∷_, _++_, flatten};
 ghost use mathlib.Core.Bool.{true, false};
 ghost use mathlib.Core.Logic.{_⊎_};
 ghost use Prim.Native.Nat.{_+_, _-_, _*_, _≤_, _<_};
@@ -35,7 +39,6 @@ ghost use lib.ListN.{length, take, drop};
 ghost use lib.Seq.{sets};
 ghost use Rattle.fiber_blake2b.specs.Blake2b.{ckbHash};
 ghost use Rattle.fiber_types.specs.Records.{Gives, validHashLen};
-ghost use Rattle.fiber_witness.specs.Witness.{flat};
 ghost use Rattle.fiber_choice.specs.Entries.{entries, trackedLen, trackedRecords, pairLen};
 ghost use Rattle.fiber_choice.specs.HandedOut as S;
 ghost use Rattle.fiber_choice.specs.inner.Plan.{planOf, planAfter, planUnlock, joined, Below, Within};
@@ -46,17 +49,17 @@ fn plan_of(choice: Choice, n: usize) -> Plan
     match choice {
         Choice::Share(side) => match side {
             Side::Remote => Plan {
-                byte: 254,
+                byte: REMOTE_SHARE,
                 flag: false,
-                pair: 0,
+                pair_place: 0,
                 skip: n,
                 remote: true,
                 local: false,
             },
             Side::Local => Plan {
-                byte: 255,
+                byte: LOCAL_SHARE,
                 flag: false,
-                pair: 0,
+                pair_place: 0,
                 skip: n,
                 remote: false,
                 local: true,
@@ -66,15 +69,15 @@ fn plan_of(choice: Choice, n: usize) -> Plan
             Way::Timeout => Plan {
                 byte: place,
                 flag: false,
-                pair: 0,
+                pair_place: 0,
                 skip: place,
                 remote: false,
                 local: false,
             },
-            Way::Preimage(pair) => Plan {
+            Way::Preimage(pair_place) => Plan {
                 byte: place,
                 flag: true,
-                pair,
+                pair_place,
                 skip: place,
                 remote: false,
                 local: false,
@@ -95,7 +98,7 @@ fn hash_after(
 ) -> [u8; 32]
     requires { ⌜ (h ≤ 32) × ((length (now remote) ≡ 36) × (length (now local) ≡ 36)) ⌝ }
     requires { ⌜ (length (entries (trackedLen h) (now tracked)) ≤ 254) × (p .skip ≤ 255) ⌝ }
-    requires { ⌜ 73 + length (flat (trackedRecords (entries (trackedLen h) (now tracked)))) ≤ length (now out) ⌝ }
+    requires { ⌜ 73 + length (flatten (trackedRecords (entries (trackedLen h) (now tracked)))) ≤ length (now out) ⌝ }
     ensures { λ r. ⌜ r ≡ ckbHash (planAfter (trackedRecords (entries (trackedLen h) (now (tracked .entry)))) (now (remote .entry)) (now (local .entry)) p) ⌝ }
     ensures { λ _. ⌜ now (out .exit) ≡ sets (now (out .entry)) 0
         (planAfter (trackedRecords (entries (trackedLen h) (now (tracked .entry)))) (now (remote .entry)) (now (local .entry)) p) ⌝ }
@@ -123,7 +126,7 @@ fn hash_after(
 // The unlock, with 65 zeros for the signature, at the front of the output.
 fn put_unlock(preimages: &[u8], p: Plan, out: &mut [u8])
     requires { ⌜ (p .byte ≤ 255) × (99 ≤ length (now out)) ⌝ }
-    requires { ⌜ (64 * (p .pair) + 64 ≤ length (now preimages)) ⊎ (p .flag ≡ false) ⌝ }
+    requires { ⌜ (64 * (p .«pair_place») + 64 ≤ length (now preimages)) ⊎ (p .flag ≡ false) ⌝ }
     ensures { λ _. ⌜ now (out .exit) ≡ sets (now (out .entry)) 0 (planUnlock (entries pairLen (now (preimages .entry))) p) ⌝ }
 {
     let u = Unlock {
@@ -135,7 +138,7 @@ fn put_unlock(preimages: &[u8], p: Plan, out: &mut [u8])
         unlock::write(
             u,
             &signature,
-            part_of(preimages, PAIR * p.pair + 32, 32),
+            part_of(preimages, PAIR * p.pair_place + PAIR_PREIMAGE, 32),
             out,
         );
     } else {
@@ -169,7 +172,7 @@ fn put_joined(
 )
     requires { ⌜ (h ≤ 32) × ((length (now remote) ≡ 36) × (length (now local) ≡ 36)) ⌝ }
     requires { ⌜ (length (entries (trackedLen h) (now tracked)) ≤ 254) × ((36 ≤ length (now args)) × (p .byte ≤ 255)) ⌝ }
-    requires { ⌜ ((64 * (p .pair) + 64 ≤ length (now preimages)) ⊎ (p .flag ≡ false)) × (p .skip ≤ 255) ⌝ }
+    requires { ⌜ ((64 * (p .«pair_place») + 64 ≤ length (now preimages)) ⊎ (p .flag ≡ false)) × (p .skip ≤ 255) ⌝ }
     requires { ⌜ length
         (joined (now args) (entries (trackedLen h) (now tracked)) (entries pairLen (now preimages)) (now remote) (now local) p) ≤
         length (now out) ⌝ }
@@ -207,12 +210,12 @@ fn amount_of(h: usize, tracked: &[u8], remote: &[u8], local: &[u8], choice: Choi
 {
     match choice {
         Choice::Share(side) => match side {
-            Side::Remote => amount_at(remote, 20),
-            Side::Local => amount_at(local, 20),
+            Side::Remote => amount_at(remote, SHARE_AMOUNT),
+            Side::Local => amount_at(local, SHARE_AMOUNT),
         },
         Choice::Tlc { place, way: _ } => {
             match tlc::read(h, tracked, place * (TRACKED_FIXED + h) + TRACKED_RECORD) {
-                TlcRead::Record(record) => record.amount,
+                TlcRead::Whole(record) => record.amount,
                 TlcRead::Refused {
                     number: _,
                     place: _,
@@ -251,15 +254,15 @@ pub fn write_output(
     requires { ⌜ Within (length (entries (trackedLen h) (now tracked))) (length (entries pairLen (now preimages))) choice ⌝ }
     ensures { λ r. ⌜ Gives
         (S.handedOut h (now (args .entry)) (entries (trackedLen h) (now (tracked .entry))) (entries pairLen (now (preimages .entry)))
-        (record { remote = remote; local = local; choice = choice; key = key; delay = delay; place = place }) (now (out .entry)))
+        remote local choice key delay place (now (out .entry)))
         r (now (out .exit)) ⌝ }
 {
     let n = tracked.len() / (TRACKED_FIXED + h);
     let p = plan_of(choice, n);
-    let unlock = if p.flag { UNLOCK_WITH_PREIMAGE } else { UNLOCK };
-    let state = STATE_FIXED + n * (TLC_FIXED + h);
-    let new = if args.len() < 57 { 57 } else { args.len() };
-    let size = unlock + state + new;
+    let unlock_len = if p.flag { UNLOCK_WITH_PREIMAGE } else { UNLOCK };
+    let state_len = STATE_FIXED + n * (TLC_FIXED + h);
+    let args_len = if args.len() < 57 { 57 } else { args.len() };
+    let size = unlock_len + state_len + args_len;
     if out.len() < size {
         return ChoiceAnswer::Refused {
             number: 13,
@@ -273,9 +276,9 @@ pub fn write_output(
         amount,
         key,
         delay,
-        unlock_len: unlock,
-        state_len: state,
-        args_len: new,
+        unlock_len,
+        state_len,
+        args_len,
         place,
         len: record_size(h, choice),
     })

@@ -1,16 +1,17 @@
 -- What the proofs of `sha256` cite: sums that wrap, a turn of each loop, a block read in the message or in its padded end, and bytes written.
 -- Assumes nothing.
 use mathlib.Core.Path.{_≡_, refl, sym, ap, ap₂, _∙_}
-use mathlib.Core.List.{List, [], _∷_, _++_, append-nil, append-assoc}
+use mathlib.Core.List.{List, [], _∷_, _++_, append-nil, append-assoc, flatMap}
 use Prim.Native.Nat.{ℕ, zero, suc, _+_, _-_, _*_, _/_, _%_, _^_, _≤_, _<_}
 use native.Mathlib.Nat.{zero-add, suc-add}
 use native.Mathlib.Numerals.{add-one}
 use native.Mathlib.Omega.{arith}
 use lib.ListN.{length, getD, set, take, drop, replicate, length-append, length-drop, length-replicate, replicate-append-replicate}
-use lib.Seq.{sets, length-sets, drop-cons, drop-drop, drop-append-le, take-append-le, take-take, take-all, append-snoc, set-at, getD-set-other, length-take-le}
+use lib.Seq.{sets, drop-cons, drop-drop, drop-append-le, take-append-le, take-all, append-snoc, set-at, getD-set-other}
 use lib.Pow.{mod-pow-add}
 use Rattle.fiber_bytes.specs.Bytes.{part, be, beBytes}
-use Rattle.fiber_sha256.specs.Sha256.{constants, ch, maj, sum0, sum1, sig0, sig1, padded, loaded, extended, t1, t2, turned, turns, folded, compressed, absorbed, wordsBytes, sha256}
+use Rattle.fiber_bytes.proofs.BytesLaws.{take-within, each-end}
+use Rattle.fiber_sha256.specs.Sha256.{constants, ch, maj, sum0, sum1, sig0, sig1, padded, loaded, extended, t1, t2, turned, turns, folded, compressed, absorbed, sha256}
 
 pub add4-by : (a b c d p q r : ℕ) → p ≡ (a + b) % 2 ^ 32 → q ≡ (p + c) % 2 ^ 32 → r ≡ (q + d) % 2 ^ 32 → r ≡ (a + b + c + d) % 2 ^ 32
 add4-by a b c d p q r e f g =
@@ -107,13 +108,6 @@ pub compressed-by : (h k p w v : List ℕ) (at : ℕ) → w ≡ loaded 16 p at �
 unfolding compressed
 compressed-by h k p w v at e f g = cc
 
--- a part of a part
-inside : (k n m : ℕ) (l : List ℕ) → k + n ≤ m → take n (drop k (take m l)) ≡ take n (drop k l)
-inside zero n m l h = take-take n m l (omega arith)
-inside (suc k) n zero l h = absurd (omega arith)
-inside (suc k) n (suc m) [] h = refl
-inside (suc k) n (suc m) (x ∷ l) h = inside k n m l (omega arith)
-
 -- what a block is made of is all that counts
 block : (n : ℕ) (s t : List ℕ) (a b : ℕ) → part s a 64 ≡ part t b 64 → n ≤ 16 → loaded n s a ≡ loaded n t b
 unfolding loaded
@@ -123,7 +117,7 @@ block (suc n) s t a b e l =
     (ap be (word s a ∙ ap (λ (q : List ℕ). take 4 (drop (4 * n) q)) e ∙ sym (word t b)))
   where
     word : (s : List ℕ) (a : ℕ) → part s (a + 4 * n) 4 ≡ part (part s a 64) (4 * n) 4
-    word s a = ap (take 4) (sym (drop-drop (4 * n) a s)) ∙ sym (inside (4 * n) 4 64 (drop a s) (omega arith))
+    word s a = ap (take 4) (sym (drop-drop (4 * n) a s)) ∙ sym (take-within (4 * n) 4 64 (drop a s) (omega arith))
 
 compressed-part : (h s t : List ℕ) (a b : ℕ) → part s a 64 ≡ part t b 64 → compressed h s a ≡ compressed h t b
 unfolding compressed
@@ -160,14 +154,14 @@ module _ (s z t h k : List ℕ) (et : t ≡ drop (length s / 64 * 64) (padded s)
   once = ended-more (padded s) z t h k (length s / 64 * 64) (length s / 64) 0 (omega arith) (omega (arith, padded-length s)) et eh ek
 
   -- a message whose end is one block
-  pub hash-one : (r : List ℕ) → length s % 64 < 56 → r ≡ wordsBytes k → r ≡ sha256 s
+  pub hash-one : (r : List ℕ) → length s % 64 < 56 → r ≡ flatMap (beBytes 4) k → r ≡ sha256 s
   unfolding sha256
   hash-one r l e =
       let n : length s / 64 + 1 ≡ (length s + 8) / 64 + 1 = omega arith in
       cc once
 
   -- or two
-  pub hash-two : (g r : List ℕ) → 56 ≤ length s % 64 → g ≡ compressed k t 64 → r ≡ wordsBytes g → r ≡ sha256 s
+  pub hash-two : (g r : List ℕ) → 56 ≤ length s % 64 → g ≡ compressed k t 64 → r ≡ flatMap (beBytes 4) g → r ≡ sha256 s
   unfolding sha256
   hash-two g r l eg e =
       let n : length s / 64 + 1 + 1 ≡ (length s + 8) / 64 + 1 = omega arith in
@@ -220,35 +214,12 @@ bytes8 x =
     let h : x / 256 / 256 / 256 % 256 % 256 ≡ x / 256 / 256 / 256 % 256 = omega arith in
     cc
 
-word-length : (x : ℕ) → length (beBytes 4 x) ≡ 4
+pub word-length : (x : ℕ) → length (beBytes 4 x) ≡ 4
 unfolding beBytes
 word-length x = refl
 
-words-more : (h : List ℕ) (i : ℕ) → i < length h → wordsBytes (take (suc i) h) ≡ wordsBytes (take i h) ++ beBytes 4 (getD h i 0)
-unfolding wordsBytes
-words-more [] i l = absurd (omega arith)
-words-more (x ∷ h) zero l = append-nil (beBytes 4 x)
-words-more (x ∷ h) (suc i) l = ap (λ (r : List ℕ). beBytes 4 x ++ r) (words-more h i (omega arith)) ∙ sym (append-assoc (beBytes 4 x) (wordsBytes (take i h)) (beBytes 4 (getD h i 0)))
-
-words-length : (h : List ℕ) → length (wordsBytes h) ≡ 4 * length h
-unfolding wordsBytes beBytes
-words-length [] = refl
-words-length (x ∷ h) = omega (arith, words-length h)
-
-pub digest-more : (h r u : List ℕ) (i : ℕ) → length h ≡ 8 → i < 8 → (length r ≡ 32) × (r ≡ wordsBytes (take i h) ++ replicate (32 - 4 * i) 0) → u ≡ sets r (4 * i) (beBytes 4 (getD h i 0))
-    → (length u ≡ 32) × (u ≡ wordsBytes (take (i + 1) h) ++ replicate (32 - 4 * (i + 1)) 0)
-digest-more h r u i n l e f =
-    let o : length (take i h) ≡ i = length-take-le i h (omega arith) in
-    let m : length (wordsBytes (take i h)) ≡ 4 * i = omega (arith, words-length (take i h)) in (
-      ap length f ∙ length-sets r (4 * i) (beBytes 4 (getD h i 0)) ∙ e .0,
-      rw add-one
-          (f ∙ ap (λ (q : List ℕ). sets q (4 * i) (beBytes 4 (getD h i 0))) (e .1)
-          ∙ filled-to (beBytes 4 (getD h i 0)) (wordsBytes (take i h)) (4 * i) (32 - 4 * i) (32 - 4 * suc i) m (omega (arith, word-length (getD h i 0)))
-          ∙ ap (λ (q : List ℕ). q ++ replicate (32 - 4 * suc i) 0) (sym (words-more h i (omega arith)))),
-    )
-
-pub digest-all : (h r : List ℕ) (i : ℕ) → length h ≡ 8 → i ≡ 8 → r ≡ wordsBytes (take i h) ++ replicate (32 - 4 * i) 0 → r ≡ wordsBytes h
-digest-all h r i n l e = (rw l at e) ∙ append-nil (wordsBytes (take 8 h)) ∙ ap wordsBytes (take-all 8 h (omega arith))
+pub digest-all : (h r : List ℕ) (i : ℕ) → length h ≡ 8 → i ≡ 8 → length r ≡ 32 → take (4 * i) r ≡ flatMap (beBytes 4) (take i h) → r ≡ flatMap (beBytes 4) h
+digest-all h r i n e l g = each-end (beBytes 4) 4 word-length h r 8 i (4 * i) e (omega arith) g ∙ ap (flatMap (beBytes 4)) (take-all 8 h (omega arith))
 
 -- bytes d, a one bit, z zeros, two words and k zeros, written one after the other
 ended : (d b c t u v w : List ℕ) (n z k e : ℕ) → length d ≡ n → length b ≡ 4 → length c ≡ 4 → e ≡ n + 1 + z

@@ -1,6 +1,6 @@
 -- SHA-256 in the order of FIPS 180-4, over lists of numbers.
 use Prim.Native.Nat.{ℕ, zero, suc, _+_, _-_, _*_, _/_, _%_, _^_}
-use mathlib.Core.List.{List, [], _∷_, _++_}
+use mathlib.Core.List.{List, [], _∷_, _++_, flatMap}
 use lib.ListN.{length, getD, set, replicate}
 use lib.Bits.{bitAnd, bitXor}
 use Rattle.fiber_bytes.specs.Bytes.{part, be, beBytes}
@@ -86,9 +86,5 @@ unfoldable pub absorbed : ℕ → List ℕ → List ℕ
 absorbed zero s = initial
 absorbed (suc n) s = compressed (absorbed n s) s (n * 64)
 
-unfoldable pub wordsBytes : List ℕ → List ℕ
-wordsBytes [] = []
-wordsBytes (x ∷ xs) = beBytes 4 x ++ wordsBytes xs
-
 unfoldable pub sha256 : List ℕ → List ℕ
-sha256 s = wordsBytes (absorbed ((length s + 8) / 64 + 1) (padded s))
+sha256 s = flatMap (beBytes 4) (absorbed ((length s + 8) / 64 + 1) (padded s))

@@ -1,6 +1,6 @@
 // SHA-256 (FIPS 180-4), proved equal to the definition in specs/Sha256.antt.
 ghost use mathlib.Core.Path.{_≡_};
-ghost use mathlib.Core.List.{_++_};
+ghost use mathlib.Core.List.{_++_, flatMap};
 ghost use Prim.Native.Nat.{_+_, _-_, _*_, _/_, _%_, _^_, _≤_, _<_};
 ghost use lib.ListN.{length, getD, drop, replicate};
 ghost use lib.Seq.{sets};
@@ -332,7 +332,7 @@ fn tail(s: &[u8]) -> [u8; 128]
 }
 
 fn digest(h: [u32; 8]) -> [u8; 32]
-    ensures { λ r. ⌜ r ≡ S.wordsBytes h ⌝ }
+    ensures { λ r. ⌜ r ≡ flatMap (beBytes 4) h ⌝ }
 {
     let mut r = [0u8; 32];
     for i in 0..8 {

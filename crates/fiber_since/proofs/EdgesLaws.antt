@@ -6,7 +6,7 @@ use Rattle.fiber_since.specs.declared.epoch.Scaled.the-variants as scale
 use Rattle.fiber_since.specs.declared.epoch.DueTest.the-variants as due·
 use Rattle.fiber_since.specs.declared.since.Expiry.the-variants as expiry·
 use Rattle.fiber_since.specs.Epoch.{epoch, withinBits, units, factor, normalized, scaled, due, dueTest}
-use Rattle.fiber_since.specs.Since.{metricOf, since, millis, ofMetric, absoluteExpiry}
+use Rattle.fiber_since.specs.Since.{metricOf, since, millis, absoluteExpiry}
 
 pub one-third : scaled (epoch 1 0 601) 1 3 ≡ scaled·.Epoch (epoch 0 300 901)
 unfolding withinBits units factor normalized scaled
@@ -25,13 +25,13 @@ unfolding withinBits units due dueTest
 not-due-before = refl
 
 pub five-seconds : absoluteExpiry 0x4000000000000005 ≡ expiry·.At 5000
-unfolding metricOf since millis ofMetric absoluteExpiry
+unfolding metricOf since millis absoluteExpiry
 five-seconds = refl
 
 pub last-second : absoluteExpiry (2 ^ 62 + 18446744073709551) ≡ expiry·.At 18446744073709551000
-unfolding metricOf since millis ofMetric absoluteExpiry
+unfolding metricOf since millis absoluteExpiry
 last-second = refl
 
 pub second-more : absoluteExpiry (2 ^ 62 + 18446744073709552) ≡ expiry·.None
-unfolding metricOf since millis ofMetric absoluteExpiry
+unfolding metricOf since millis absoluteExpiry
 second-more = refl

@@ -4,7 +4,7 @@ use Prim.Native.Nat.{ℕ, _+_, _*_, _/_, _%_, _^_, _≤_, _<_}
 use native.Mathlib.Nat.{mod-lt, mod-le, div-le-self, div-add-mod', mul-le-mul-right, suc-mul, mul-zero, add-mul, mul-assoc, mul-comm, mul-pos, mul-le-mul-left, mul-lt-mul-of-pos-right, lt-of-le-of-lt, add-comm, add-mul-div-right, add-mul-mod-self-right, le-div-iff-mul-le, div-lt-iff-lt-mul}
 use native.Mathlib.Omega.{arith}
 use mathlib.Core.Path.{_≡_, refl, sym, ap, subst, _∙_}
-use mathlib.Core.Bool.{Bool, true, false, cond}
+use mathlib.Core.Bool.{Bool, true, false, cond, _&&_, _||_, or-true}
 use mathlib.Core.Logic.{_⊎_, inl, inr}
 use lib.Dec.{eqb, leb, ltb, lit<}
 use borrow.Author.Tests.{le-leb, lt-leb, leb-true, leb-false, lt-ltb, le-ltb, ltb-true, ltb-false, ne-eqb}
@@ -195,7 +195,7 @@ unfolding withinBits
 bits e h = go (ltb (e .number) (2 ^ 24)) (ltb (e .index) (2 ^ 16)) (ltb (e .length) (2 ^ 16)) refl refl refl h
   where
     go : (a b d : Bool) → ltb (e .number) (2 ^ 24) ≡ a → ltb (e .index) (2 ^ 16) ≡ b → ltb (e .length) (2 ^ 16) ≡ d
-        → cond a (cond b d false) false ≡ true → Bits e
+        → (a && b && d) ≡ true → Bits e
     go true true true p q r h = record { number = ltb-true _ _ p; index = ltb-true _ _ q; length = ltb-true _ _ r }
     go true true false p q r h = let z : _≡_ {A = ℕ} 0 1 = cc in absurd (omega arith)
     go true false d p q r h = let z : _≡_ {A = ℕ} 0 1 = cc in absurd (omega arith)
@@ -256,22 +256,13 @@ module _ (e : Epoch) (a b : ℕ) where
 
 -- ---- the due test, by its tests
 
-zero-among : (a b d : ℕ) → (a ≡ 0) ⊎ ((b ≡ 0) ⊎ (d ≡ 0)) → cond (eqb a 0) true (cond (eqb b 0) true (eqb d 0)) ≡ true
+zero-among : (a b d : ℕ) → (a ≡ 0) ⊎ ((b ≡ 0) ⊎ (d ≡ 0)) → (eqb a 0 || eqb b 0 || eqb d 0) ≡ true
 zero-among a b d (inl e) = rw e
-zero-among a b d (inr (inl e)) = rw e (either (eqb a 0))
-  where
-    either : (t : Bool) → cond t true true ≡ true
-    either true = refl
-    either false = refl
-zero-among a b d (inr (inr e)) = rw e (either (eqb a 0) (eqb b 0))
-  where
-    either : (t u : Bool) → cond t true (cond u true true) ≡ true
-    either true u = refl
-    either false true = refl
-    either false false = refl
+zero-among a b d (inr (inl e)) = rw (e, or-true (eqb a 0))
+zero-among a b d (inr (inr e)) = rw (e, or-true (eqb a 0 || eqb b 0))
 
 module _ (h d n : Epoch) where
-  pub test-bits : cond (withinBits h) (cond (withinBits d) (withinBits n) false) false ≡ false → due·.Refused 14 0 ≡ dueTest h d n
+  pub test-bits : (withinBits h && withinBits d && withinBits n) ≡ false → due·.Refused 14 0 ≡ dueTest h d n
   unfolding dueTest
   test-bits e = rw e
 
@@ -315,7 +306,7 @@ factor-size d h = go (ltb 1800 d) refl
 -- a scaled delay that is not turned down, and can be compared
 pub record Fraction (x : Scaled) : Type 0 where
   pub epoch : Epoch
-  pub told : x ≡ scaled·.Epoch epoch
+  pub is-epoch : x ≡ scaled·.Epoch epoch
   pub within : Bounded epoch
 
 -- a fraction whose whole part has 24 bits
@@ -326,7 +317,7 @@ normalized-within n d p h =
     let w : n / d < 16777216 = div-lt-iff-lt-mul p .1 h in
     record {
       epoch = record { number = n / d; index = n % d / factor d; length = d / factor d };
-      told = rw (ne-eqb d 0 (λ e. omega arith), le-ltb 16777215 (n / d) (omega arith));
+      is-epoch = rw (ne-eqb d 0 (λ e. omega arith), le-ltb 16777215 (n / d) (omega arith));
       within = record {
         number = w;
         index = div-lt-iff-lt-mul (f .some) .1 (omega (arith, f .cover, mod-lt n p));
@@ -353,7 +344,7 @@ thirds-within e k h w =
 
 -- so what the code has as a third can be compared
 pub third-within : (e : Epoch) (k : ℕ) → k ≤ 2 → Bounded e → (x : Scaled) (third : Epoch) → x ≡ scaled e k 3 → x ≡ scaled·.Epoch third → Bounded third
-third-within e k h w x third f g = let z = thirds-within e k h w in subst Bounded (inside (z .epoch) third (sym (z .told) ∙ sym f ∙ g)) (z .within)
+third-within e k h w x third f g = let z = thirds-within e k h w in subst Bounded (inside (z .epoch) third (sym (z .is-epoch) ∙ sym f ∙ g)) (z .within)
   where
     inside : (a b : Epoch) → scaled·.Epoch a ≡ scaled·.Epoch b → a ≡ b
     inside a b e = cc
@@ -361,7 +352,7 @@ third-within e k h w x third f g = let z = thirds-within e k h w in subst Bounde
 -- and it has one
 pub third-refused : (e : Epoch) (k : ℕ) → k ≤ 2 → Bounded e → (x : Scaled) (number place : ℕ) → x ≡ scaled e k 3 → x ≡ scaled·.Refused number place → ⊥
 third-refused e k h w x number place f g =
-    let t = sym (thirds-within e k h w .told) ∙ sym f ∙ g in
+    let t = sym (thirds-within e k h w .is-epoch) ∙ sym f ∙ g in
     let z : _≡_ {A = ℕ} 0 1 = cc in
     omega arith
 

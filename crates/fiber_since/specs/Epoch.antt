@@ -1,6 +1,6 @@
 -- Epochs: fields, scaling and the due test; document 01, modules 2 to 4, with the numbers of its table.
 use Prim.Native.Nat.{ℕ, _+_, _*_, _/_, _%_, _^_}
-use mathlib.Core.Bool.{Bool, true, false, cond}
+use mathlib.Core.Bool.{Bool, cond, _&&_, _||_}
 use lib.Dec.{eqb, ltb, leb}
 use Rattle.fiber_since.specs.declared.epoch.Epoch.{Epoch}
 use Rattle.fiber_since.specs.declared.epoch.Scaled.{Scaled}
@@ -17,7 +17,7 @@ epochOf v = record { number = v % 2 ^ 24; index = v / 2 ^ 24 % 2 ^ 16; length = 
 
 -- each field within its bits
 unfoldable pub withinBits : Epoch → Bool
-withinBits e = cond (ltb (e .number) (2 ^ 24)) (cond (ltb (e .index) (2 ^ 16)) (ltb (e .length) (2 ^ 16)) false) false
+withinBits e = ltb (e .number) (2 ^ 24) && ltb (e .index) (2 ^ 16) && ltb (e .length) (2 ^ 16)
 
 -- ---- scaling
 
@@ -56,7 +56,7 @@ due header delay current =
 -- in the order 14, 7
 unfoldable pub dueTest : Epoch → Epoch → Epoch → DueTest
 dueTest header delay current =
-    cond (cond (withinBits header) (cond (withinBits delay) (withinBits current) false) false)
-    (cond (cond (eqb (header .length) 0) true (cond (eqb (delay .length) 0) true (eqb (current .length) 0))) (due·.Refused 7 0)
+    cond (withinBits header && withinBits delay && withinBits current)
+    (cond (eqb (header .length) 0 || eqb (delay .length) 0 || eqb (current .length) 0) (due·.Refused 7 0)
     (cond (due header delay current) due·.Due due·.NotDue))
     (due·.Refused 14 0)

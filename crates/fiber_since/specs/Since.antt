@@ -12,6 +12,13 @@ use Rattle.fiber_since.specs.declared.since.Expiry.the-variants as expir
 unfoldable pub metricOf : ℕ → Metric
 metricOf bits = cond (eqb bits 0) Block (cond (eqb bits 1) Epoch (cond (eqb bits 2) Timestamp None))
 
+-- one answer for an epoch, one for a timestamp, one for the other two
+abbrev pub byMetric : {A : Type 0} → A → A → A → Metric → A
+byMetric epoch timestamp other Block = other
+byMetric epoch timestamp other Epoch = epoch
+byMetric epoch timestamp other Timestamp = timestamp
+byMetric epoch timestamp other None = other
+
 -- bit 63: relative; the low 56 bits: the value
 unfoldable pub since : ℕ → Since
 since raw = record { relative = eqb (raw / 2 ^ 63) 1; metric = metricOf (raw / 2 ^ 61 % 4); value = raw % 2 ^ 56 }
@@ -20,12 +27,6 @@ since raw = record { relative = eqb (raw / 2 ^ 63) 1; metric = metricOf (raw / 2
 unfoldable pub millis : ℕ → Expiry
 millis seconds = cond (ltb (seconds * 1000) (2 ^ 64)) (expiry.At (seconds * 1000)) expiry.None
 
-unfoldable pub ofMetric : Metric → ℕ → Expiry
-ofMetric Block v = expiry.None
-ofMetric Epoch v = expiry.None
-ofMetric Timestamp v = millis v
-ofMetric None v = expiry.None
-
 -- an absolute timestamp, or no expiry
 unfoldable pub absoluteExpiry : ℕ → Expiry
-absoluteExpiry raw = cond (since raw .relative) expiry.None (ofMetric (since raw .metric) (since raw .value))
+absoluteExpiry raw = cond (since raw .relative) expiry.None (byMetric expiry.None (millis (since raw .value)) expiry.None (since raw .metric))

@@ -2,24 +2,25 @@
 -- Assumes nothing.
 use Prim.Native.Nat.{ℕ, suc, _+_, _-_, _≤_, _<_}
 use native.Mathlib.Omega.{arith}
-use mathlib.Core.Path.{_≡_, refl, sym, ap, _∙_}
-use mathlib.Core.Bool.{Bool, true, false, cond}
+use mathlib.Core.Path.{_≡_, refl, sym, ap, subst, _∙_}
+use mathlib.Core.Bool.{Bool, true, false, cond, _&&_, _||_, and-false}
 use mathlib.Core.List.{List, _∷_, _++_, append-assoc}
 use mathlib.Core.Logic.{_⊎_, inl, inr}
 use lib.Dec.{eqb, leb, lit≤}
-use lib.ListN.{length, getD, length-append, set}
+use lib.ListN.{length, getD, drop, length-append, length-take, set}
 use lib.Seq.{sets, length-sets}
 use borrow.Author.Tests.{le-leb, lt-leb, leb-true, eq-eqb, ne-eqb, eqb-true}
 use Rattle.fiber_types.specs.declared.answer.Written.{Written}
 use Rattle.fiber_types.specs.declared.answer.Written.the-variants as written·
 use Rattle.fiber_types.specs.declared.tlc.Amount.{Amount}
 use Rattle.fiber_types.specs.declared.tlc.Tlc.{Tlc}
+use Rattle.fiber_types.specs.declared.tlc.TlcRead.{TlcRead}
 use Rattle.fiber_types.specs.declared.tlc.TlcRead.the-variants as tlc·
 use Rattle.fiber_types.specs.declared.unlock.Unlock.{Unlock}
 use Rattle.fiber_types.specs.declared.unlock.UnlockRead.the-variants as unlock·
 use Rattle.fiber_bytes.specs.Bytes.{part, le, leBytes}
-use Rattle.fiber_types.specs.Records.{outcome, amountAt, validHashLen, tlcBytes, tlcAt, readTlc, wroteTlc, witnessLen, flagByte, unlockBytes, readUnlock, wroteUnlock}
-use Rattle.fiber_bytes.proofs.BytesLaws.{part-part, leBytes-length, sets-then, le-none}
+use Rattle.fiber_types.specs.Records.{outcome, amountAt, validHashLen, tlcBytes, tlcAt, paymentHash, keyHashIn, readTlc, wroteTlc, witnessLen, flagByte, unlockBytes, readUnlock, wroteUnlock}
+use Rattle.fiber_bytes.proofs.BytesLaws.{part-none, part-part, leBytes-length, sets-then, le-none}
 
 -- ---- reading
 
@@ -33,7 +34,7 @@ module _ (h : ℕ) (s : List ℕ) (at : ℕ) where
     unfolding readTlc
     tlc-cut g = rw (e, lt-leb (at + (65 + h)) (length s) g)
 
-    pub tlc-whole : at + (65 + h) ≤ length s → readTlc h s at ≡ tlc·.Record (tlcAt h s at)
+    pub tlc-whole : at + (65 + h) ≤ length s → readTlc h s at ≡ tlc·.Whole (tlcAt h s at)
     unfolding readTlc
     tlc-whole g = rw (e, le-leb (at + (65 + h)) (length s) g)
 
@@ -48,16 +49,55 @@ module _ (h : ℕ) (s : List ℕ) (at : ℕ) where
   unfolding tlcAt
   tlc-amount = refl
 
--- 20 is one
+-- A TLC that is whole: what is read is its numbers, and it is never turned down.
+module _ {x : TlcRead} {t : Tlc} (e : x ≡ tlc·.Whole t) where
+  pub whole-is : (u : Tlc) → x ≡ tlc·.Whole u → u ≡ t
+  whole-is u f = ap numbers-of (sym f ∙ e)
+    where
+      numbers-of : TlcRead → Tlc
+      numbers-of (tlc·.Whole v) = v
+      numbers-of (tlc·.Refused number place) = u
+
+  pub whole-never : {A : Type 0} (number place : ℕ) → x ≡ tlc·.Refused number place → A
+  whole-never number place f = absurd (subst Whole (sym e ∙ f) tt)
+    where
+      Whole : TlcRead → Type 0
+      Whole (tlc·.Whole v) = Unit {0}
+      Whole (tlc·.Refused number place) = ⊥
+
+-- a record's parts
+pub payment-hash : (h : ℕ) (r : List ℕ) → part r 17 h ≡ paymentHash h r
+unfolding paymentHash
+payment-hash h r = refl
+
+-- at most h bytes, and as many where the record is whole
+pub payment-hash-length : (h : ℕ) (r : List ℕ) → length (paymentHash h r) ≤ h
+unfolding paymentHash
+payment-hash-length h r = omega (arith, length-take h (drop 17 r))
+
+module _ (h : ℕ) (local : Bool) (r : List ℕ) (front : ℕ) (e : front ≡ cond local 37 17) where
+  pub slot-there : part r (front + h) 20 ≡ keyHashIn h local r
+  unfolding keyHashIn
+  slot-there = rw e
+
+  -- past the end of the record
+  pub slot-beyond : (at : ℕ) → length r ≤ at → length r < front + h → part r at 20 ≡ keyHashIn h local r
+  slot-beyond at g l = part-none r at 20 g ∙ sym (part-none r (front + h) 20 (omega arith)) ∙ slot-there
+
+-- 20 is one, and 32
 pub hash-len-20 : validHashLen 20 ≡ true
 unfolding validHashLen
 hash-len-20 = refl
+
+pub hash-len-32 : validHashLen 32 ≡ true
+unfolding validHashLen
+hash-len-32 = refl
 
 pub hash-len-small : (h : ℕ) → validHashLen h ≡ true → h ≤ 32
 unfolding validHashLen
 hash-len-small h e = go (eqb h 20) (eqb h 32) refl refl e
   where
-    go : (a b : Bool) → eqb h 20 ≡ a → eqb h 32 ≡ b → cond a true b ≡ true → h ≤ 32
+    go : (a b : Bool) → eqb h 20 ≡ a → eqb h 32 ≡ b → (a || b) ≡ true → h ≤ 32
     go true b p q r = omega (arith, eqb-true h 20 p)
     go false true p q r = omega (arith, eqb-true h 32 q)
     go false false p q r = let z : _≡_ {A = ℕ} 0 1 = cc in absurd (omega arith)
@@ -67,7 +107,7 @@ module _ (s : List ℕ) (at : ℕ) where
   unfolding readUnlock
   unlock-cut h = go (eqb (getD s (at + 1) 0) 1)
     where
-      go : (t : Bool) → unlock·.Refused 4 at ≡ cond (leb (at + cond t 99 67) (length s)) (unlock·.Record (record { byte = getD s at 0; flag = t })) (unlock·.Refused 4 at)
+      go : (t : Bool) → unlock·.Refused 4 at ≡ cond (leb (at + cond t 99 67) (length s)) (unlock·.Whole (record { byte = getD s at 0; flag = t })) (unlock·.Refused 4 at)
       go true = rw (lt-leb (at + 99) (length s) (omega arith))
       go false = rw (lt-leb (at + 67) (length s) h)
 
@@ -76,7 +116,7 @@ module _ (s : List ℕ) (at : ℕ) where
   unlock-cut-flag t e h = rw (← e, lt-leb (at + witnessLen t) (length s) h)
 
   pub unlock-whole : (t : Bool) → t ≡ eqb (getD s (at + 1) 0) 1 → at + witnessLen t ≤ length s
-      → unlock·.Record (record { byte = getD s at 0; flag = t }) ≡ readUnlock s at
+      → unlock·.Whole (record { byte = getD s at 0; flag = t }) ≡ readUnlock s at
   unfolding readUnlock
   unlock-whole t e h = rw (← e, le-leb (at + witnessLen t) (length s) h)
 
@@ -196,15 +236,6 @@ module _ (u : Unlock) (signature preimage : List ℕ) where
 
 -- ---- what is written, by the tests
 
-same : (a : Bool) → cond a false false ≡ false
-same true = refl
-same false = refl
-
-deep : (a b : Bool) → cond a (cond b false false) false ≡ false
-deep true true = refl
-deep true false = refl
-deep false b = refl
-
 pub at-least : (f : Bool) → 67 ≤ witnessLen f
 at-least true = lit≤ tt
 at-least false = lit≤ tt
@@ -216,13 +247,13 @@ module _ (t : Tlc) (hash remote local out : List ℕ) where
   tlc-unfit h = outcome-unfit _ (tlcBytes t hash remote local) out (go h)
     where
       go : (validHashLen (length hash) ≡ false) ⊎ ((length remote ≡ 20 → ⊥) ⊎ (length local ≡ 20 → ⊥))
-          → cond (validHashLen (length hash)) (cond (eqb (length remote) 20) (eqb (length local) 20) false) false ≡ false
+          → (validHashLen (length hash) && eqb (length remote) 20 && eqb (length local) 20) ≡ false
       go (inl e) = rw e
-      go (inr (inl e)) = rw (ne-eqb (length remote) 20 e) (same (validHashLen (length hash)))
-      go (inr (inr e)) = rw (ne-eqb (length local) 20 e) (deep (validHashLen (length hash)) (eqb (length remote) 20))
+      go (inr (inl e)) = rw (ne-eqb (length remote) 20 e, and-false (validHashLen (length hash)))
+      go (inr (inr e)) = rw (ne-eqb (length local) 20 e, and-false (validHashLen (length hash) && eqb (length remote) 20))
 
   module _ (k : validHashLen (length hash) ≡ true) (e : length remote ≡ 20) (f : length local ≡ 20) where
-    fit : cond (validHashLen (length hash)) (cond (eqb (length remote) 20) (eqb (length local) 20) false) false ≡ true
+    fit : (validHashLen (length hash) && eqb (length remote) 20 && eqb (length local) 20) ≡ true
     fit = rw (k, e, f)
 
     size : length (tlcBytes t hash remote local) ≡ 65 + length hash
@@ -245,12 +276,12 @@ module _ (u : Unlock) (signature preimage out : List ℕ) (n : ℕ) (w : n ≡ w
   unlock-unfit h = outcome-unfit _ (unlockBytes u signature preimage) out (go h)
     where
       go : (length signature ≡ 65 → ⊥) ⊎ (length preimage ≡ n - 67 → ⊥)
-          → cond (eqb (length signature) 65) (eqb (length preimage) (witnessLen (u .flag) - 67)) false ≡ false
+          → (eqb (length signature) 65 && eqb (length preimage) (witnessLen (u .flag) - 67)) ≡ false
       go (inl e) = rw (ne-eqb (length signature) 65 e)
-      go (inr e) = rw (← w, ne-eqb (length preimage) (n - 67) e) (same (eqb (length signature) 65))
+      go (inr e) = rw (← w, ne-eqb (length preimage) (n - 67) e, and-false (eqb (length signature) 65))
 
   module _ (e : length signature ≡ 65) (f : length preimage ≡ n - 67) where
-    fits : cond (eqb (length signature) 65) (eqb (length preimage) (witnessLen (u .flag) - 67)) false ≡ true
+    fits : (eqb (length signature) 65 && eqb (length preimage) (witnessLen (u .flag) - 67)) ≡ true
     fits = rw (e, ← w, eq-eqb (length preimage) (n - 67) f)
 
     len : length (unlockBytes u signature preimage) ≡ n

@@ -8,15 +8,15 @@ use mathlib.Core.Bool.{Bool, true, false, cond}
 use mathlib.Core.Logic.{⊎-elim}
 use mathlib.Core.List.{List, [], _∷_, _++_, append-assoc}
 use lib.Dec.{eqb, leb, lit<}
-use lib.ListN.{length, getD, drop, set, length-append, length-take, List·getD-eq-default}
-use lib.Seq.{take-at, drop-at, getD-at, getD-take, getD-drop}
+use lib.ListN.{length, getD, take, drop, set, length-append, length-take, List·getD-eq-default}
+use lib.Seq.{take-at, drop-at, drop-drop, getD-at, getD-take, getD-drop}
 use borrow.Author.Tests.{leb-true, leb-false}
 use Rattle.fiber_types.specs.declared.tlc.Tlc.{Tlc}
 use Rattle.fiber_types.specs.declared.tlc.TlcRead.the-variants as tlc·
 use Rattle.fiber_types.specs.declared.unlock.Unlock.{Unlock}
 use Rattle.fiber_types.specs.declared.unlock.UnlockRead.the-variants as unlock·
 use Rattle.fiber_bytes.specs.Bytes.{part, le, leBytes}
-use Rattle.fiber_types.specs.Records.{amountOf, amountAt, validHashLen, tlcBytes, tlcAt, readTlc, witnessLen, flagByte, unlockBytes, readUnlock}
+use Rattle.fiber_types.specs.Records.{amountOf, amountAt, validHashLen, tlcBytes, tlcAt, paymentHash, keyHashIn, readTlc, witnessLen, flagByte, unlockBytes, readUnlock}
 use Rattle.fiber_bytes.proofs.BytesLaws.{either, part-add, part-length, part-one, le-add, leBytes-length}
 use Rattle.fiber_types.proofs.RecordsLaws.{tlcBytes-length, unlockBytes-length, tlc-whole, tlc-fields, unlock-whole, at-least, amount-both}
 
@@ -79,12 +79,22 @@ pub record TlcFits (t : Tlc) : Type 0 where
   pub high : t .amount .high < 2 ^ 64
   pub expiry : t .expiry < 2 ^ 64
 
+-- where its three parts stand in s
+module _ (h : ℕ) (s : List ℕ) (at : ℕ) where
+  hash-at : paymentHash h (drop at s) ≡ part s (at + 17) h
+  unfolding paymentHash
+  hash-at = ap (take h) (drop-drop 17 at s)
+
+  slot-at : (local : Bool) (place : ℕ) → at + (cond local 37 17 + h) ≡ place → keyHashIn h local (drop at s) ≡ part s place 20
+  unfolding keyHashIn
+  slot-at local place e = ap (take 20) (drop-drop (cond local 37 17 + h) at s) ∙ ap (λ (k : ℕ). part s k 20) e
+
 -- What reading finds in s at a place: the TLC, and its three parts.
 pub record TlcBack (h : ℕ) (s : List ℕ) (at : ℕ) (t : Tlc) (a b c : List ℕ) : Type 0 where
-  pub tlc : readTlc h s at ≡ tlc·.Record t
-  pub hash : part s (at + 17) h ≡ a
-  pub remote : part s (at + 17 + h) 20 ≡ b
-  pub local : part s (at + 37 + h) 20 ≡ c
+  pub tlc : readTlc h s at ≡ tlc·.Whole t
+  pub hash : paymentHash h (drop at s) ≡ a
+  pub remote : keyHashIn h false (drop at s) ≡ b
+  pub local : keyHashIn h true (drop at s) ≡ c
 
 module _ (t : Tlc) (hash remote local p q : List ℕ) (w : TlcFits t) (k : validHashLen (length hash) ≡ true) (e : length remote ≡ 20) (f : length local ≡ 20) where
   abbrev low : List ℕ
@@ -158,33 +168,33 @@ module _ (t : Tlc) (hash remote local p q : List ℕ) (w : TlcFits t) (k : valid
   -- What was written reads back.
   pub tlc-reads-back : TlcBack (length hash) whole (length p) t hash remote local
   tlc-reads-back = record {
-    tlc = tlc-whole (length hash) whole (length p) k room ∙ ap tlc·.Record (sym same);
-    hash = hash-part;
-    remote = remote-part;
-    local = local-part;
+    tlc = tlc-whole (length hash) whole (length p) k room ∙ ap tlc·.Whole (sym same);
+    hash = hash-at (length hash) whole (length p) ∙ hash-part;
+    remote = slot-at (length hash) whole (length p) false (length p + 17 + length hash) (omega arith) ∙ remote-part;
+    local = slot-at (length hash) whole (length p) true (length p + 37 + length hash) (omega arith) ∙ local-part;
   }
 
 -- what a TLC that was read says of the slice
-tlc-read : (h : ℕ) (s : List ℕ) (at : ℕ) (t : Tlc) → readTlc h s at ≡ tlc·.Record t
+tlc-read : (h : ℕ) (s : List ℕ) (at : ℕ) (t : Tlc) → readTlc h s at ≡ tlc·.Whole t
     → (at + (65 + h) ≤ length s) × (t ≡ tlcAt h s at)
 unfolding readTlc
 tlc-read h s at t e = go (validHashLen h) (leb (at + (65 + h)) (length s)) refl e
   where
     go : (a b : Bool) → leb (at + (65 + h)) (length s) ≡ b
-        → cond a (cond b (tlc·.Record (tlcAt h s at)) (tlc·.Refused 2 at)) (tlc·.Refused 14 0) ≡ tlc·.Record t
+        → cond a (cond b (tlc·.Whole (tlcAt h s at)) (tlc·.Refused 2 at)) (tlc·.Refused 14 0) ≡ tlc·.Whole t
         → (at + (65 + h) ≤ length s) × (t ≡ tlcAt h s at)
     go true true p e = (leb-true (at + (65 + h)) (length s) p, cc)
     go true false p e = let z : _≡_ {A = ℕ} 0 1 = cc in absurd (omega arith)
     go false b p e = let z : _≡_ {A = ℕ} 0 1 = cc in absurd (omega arith)
 
 -- What was read and written is the same bytes.
-pub tlc-same-bytes : (h : ℕ) (s : List ℕ) (at : ℕ) (t : Tlc) → Bytes s → readTlc h s at ≡ tlc·.Record t
-    → tlcBytes t (part s (at + 17) h) (part s (at + 17 + h) 20) (part s (at + 37 + h) 20) ≡ part s at (65 + h)
+pub tlc-same-bytes : (h : ℕ) (s : List ℕ) (at : ℕ) (t : Tlc) → Bytes s → readTlc h s at ≡ tlc·.Whole t
+    → tlcBytes t (paymentHash h (drop at s)) (keyHashIn h false (drop at s)) (keyHashIn h true (drop at s)) ≡ part s at (65 + h)
 unfolding tlcBytes tlcAt amountAt
 tlc-same-bytes h s at t w e =
     let r = tlc-read h s at t e in
     let l : at + (65 + h) ≤ length s = r .0 in
-    rw (r .1, again s (at + 1) w (omega arith), again s (at + 1 + 8) w (omega arith), again s (at + 57 + h) w (omega arith))
+    rw (hash-at h s at, slot-at h s at false (at + 17 + h) (omega arith), slot-at h s at true (at + 37 + h) (omega arith), r .1, again s (at + 1) w (omega arith), again s (at + 1 + 8) w (omega arith), again s (at + 57 + h) w (omega arith))
     (sym
     (cut s at 1 (64 + h) (65 + h) (at + 1) (omega arith) refl
     ∙ ap₂ _++_ (part-one s at (omega arith))
@@ -201,7 +211,7 @@ tlc-same-bytes h s at t w e =
 
 -- What reading finds in s at a place: the unlock, and its two parts.
 pub record UnlockBack (s : List ℕ) (at : ℕ) (u : Unlock) (a b : List ℕ) : Type 0 where
-  pub unlock : readUnlock s at ≡ unlock·.Record u
+  pub unlock : readUnlock s at ≡ unlock·.Whole u
   pub signature : part s (at + 2) 65 ≡ a
   pub preimage : part s (at + 67) (witnessLen (u .flag) - 67) ≡ b
 
@@ -244,7 +254,7 @@ module _ (u : Unlock) (signature preimage p q : List ℕ) (e : length signature 
   unlock-reads-back = record {
     unlock =
         sym
-        (ap (λ (b : ℕ). unlock·.Record (record { byte = b; flag = u .flag })) (sym byte-at)
+        (ap (λ (b : ℕ). unlock·.Whole (record { byte = b; flag = u .flag })) (sym byte-at)
         ∙ unlock-whole witness (length p) (u .flag) (flag-back (u .flag) ∙ ap (λ (b : ℕ). eqb b 1) (sym flag-at)) fits);
     signature = signature-part;
     preimage = preimage-part;
@@ -257,19 +267,19 @@ unfolding readUnlock
 unlock-refused s at number place e = go (leb (at + witnessLen (eqb (getD s (at + 1) 0) 1)) (length s)) refl e
   where
     go : (b : Bool) → leb (at + witnessLen (eqb (getD s (at + 1) 0) 1)) (length s) ≡ b
-        → cond b (unlock·.Record (record { byte = getD s at 0; flag = eqb (getD s (at + 1) 0) 1 })) (unlock·.Refused 4 at) ≡ unlock·.Refused number place
+        → cond b (unlock·.Whole (record { byte = getD s at 0; flag = eqb (getD s (at + 1) 0) 1 })) (unlock·.Refused 4 at) ≡ unlock·.Refused number place
         → (length s < at + witnessLen (eqb (getD s (at + 1) 0) 1)) × ((number ≡ 4) × (place ≡ at))
     go true q r = let z : _≡_ {A = ℕ} 0 1 = cc in absurd (omega arith)
     go false q r = (leb-false (at + witnessLen (eqb (getD s (at + 1) 0) 1)) (length s) q, (cc, cc))
 
 -- what an unlock that was read says of the slice
-pub unlock-read : (s : List ℕ) (at : ℕ) (u : Unlock) → readUnlock s at ≡ unlock·.Record u
+pub unlock-read : (s : List ℕ) (at : ℕ) (u : Unlock) → readUnlock s at ≡ unlock·.Whole u
     → (at + witnessLen (u .flag) ≤ length s) × (u ≡ record { byte = getD s at 0; flag = eqb (getD s (at + 1) 0) 1 })
 unfolding readUnlock
 unlock-read s at u e = go (eqb (getD s (at + 1) 0) 1) (leb (at + witnessLen (eqb (getD s (at + 1) 0) 1)) (length s)) refl refl e
   where
     go : (a b : Bool) → eqb (getD s (at + 1) 0) 1 ≡ a → leb (at + witnessLen (eqb (getD s (at + 1) 0) 1)) (length s) ≡ b
-        → cond b (unlock·.Record (record { byte = getD s at 0; flag = eqb (getD s (at + 1) 0) 1 })) (unlock·.Refused 4 at) ≡ unlock·.Record u
+        → cond b (unlock·.Whole (record { byte = getD s at 0; flag = eqb (getD s (at + 1) 0) 1 })) (unlock·.Refused 4 at) ≡ unlock·.Whole u
         → (at + witnessLen (u .flag) ≤ length s) × (u ≡ record { byte = getD s at 0; flag = eqb (getD s (at + 1) 0) 1 })
     go a true p q e =
         let r : u ≡ record { byte = getD s at 0; flag = eqb (getD s (at + 1) 0) 1 } = cc in
@@ -277,7 +287,7 @@ unlock-read s at u e = go (eqb (getD s (at + 1) 0) 1) (leb (at + witnessLen (eqb
     go a false p q e = let z : _≡_ {A = ℕ} 0 1 = cc in absurd (omega arith)
 
 -- What was read and written is the same bytes but for the flag, which is written as 0 or 1.
-pub unlock-same-bytes : (s : List ℕ) (at : ℕ) (u : Unlock) → readUnlock s at ≡ unlock·.Record u
+pub unlock-same-bytes : (s : List ℕ) (at : ℕ) (u : Unlock) → readUnlock s at ≡ unlock·.Whole u
     → unlockBytes u (part s (at + 2) 65) (part s (at + 67) (witnessLen (u .flag) - 67)) ≡ set (part s at (witnessLen (u .flag))) 1 (flagByte (u .flag))
 unfolding unlockBytes
 unlock-same-bytes s at u e =

@@ -1,7 +1,7 @@
 -- TLC records and unlocks; document 01, "Records", with the numbers of its table.
 use Prim.Native.Nat.{ℕ, _+_, _-_, _*_, _%_, _^_}
 use mathlib.Core.Path.{_≡_}
-use mathlib.Core.Bool.{Bool, true, false, cond}
+use mathlib.Core.Bool.{Bool, cond, _&&_, _||_}
 use mathlib.Core.List.{List, _∷_, _++_}
 use lib.ListN.{length, getD}
 use lib.Seq.{sets}
@@ -54,7 +54,7 @@ amountAt s at = record { low = le (part s at 8); high = le (part s (at + 8) 8) }
 
 -- h is 20, or 32 on a channel with full hashes
 unfoldable pub validHashLen : ℕ → Bool
-validHashLen h = cond (eqb h 20) true (eqb h 32)
+validHashLen h = eqb h 20 || eqb h 32
 
 -- type bit 0 clear: offered
 unfoldable pub isOffered : Tlc → Bool
@@ -70,18 +70,25 @@ tlcBytes t hash remote local =
 unfoldable pub tlcAt : ℕ → List ℕ → ℕ → Tlc
 tlcAt h s at = record { kind = getD s at 0; amount = amountAt s (at + 1); expiry = le (part s (at + 57 + h) 8) }
 
+-- the hash in a record, and the key hash in a slot of it, local or remote
+unfoldable pub paymentHash : ℕ → List ℕ → List ℕ
+paymentHash h r = part r 17 h
+
+unfoldable pub keyHashIn : ℕ → Bool → List ℕ → List ℕ
+keyHashIn h local r = part r (cond local 37 17 + h) 20
+
 -- 14, then a TLC cut short: 2 at its first byte
 unfoldable pub readTlc : ℕ → List ℕ → ℕ → TlcRead
 readTlc h s at =
     cond (validHashLen h)
     (cond (leb (at + (65 + h)) (length s))
-    (tlc·.Record (tlcAt h s at))
+    (tlc·.Whole (tlcAt h s at))
     (tlc·.Refused 2 at))
     (tlc·.Refused 14 0)
 
 unfoldable pub wroteTlc : Tlc → List ℕ → List ℕ → List ℕ → List ℕ → Outcome Written
 wroteTlc t hash remote local out =
-    outcome (cond (validHashLen (length hash)) (cond (eqb (length remote) 20) (eqb (length local) 20) false) false) (tlcBytes t hash remote local) out
+    outcome (validHashLen (length hash) && eqb (length remote) 20 && eqb (length local) 20) (tlcBytes t hash remote local) out
 
 -- ---- unlocks
 
@@ -101,9 +108,9 @@ unfoldable pub readUnlock : List ℕ → ℕ → UnlockRead
 readUnlock s at =
     let flag = eqb (getD s (at + 1) 0) 1 in
     cond (leb (at + witnessLen flag) (length s))
-    (unlock·.Record (record { byte = getD s at 0; flag = flag }))
+    (unlock·.Whole (record { byte = getD s at 0; flag = flag }))
     (unlock·.Refused 4 at)
 
 unfoldable pub wroteUnlock : Unlock → List ℕ → List ℕ → List ℕ → Outcome Written
 wroteUnlock u signature preimage out =
-    outcome (cond (eqb (length signature) 65) (eqb (length preimage) (witnessLen (u .flag) - 67)) false) (unlockBytes u signature preimage) out
+    outcome (eqb (length signature) 65 && eqb (length preimage) (witnessLen (u .flag) - 67)) (unlockBytes u signature preimage) out

@@ -1,9 +1,11 @@
 // TLC records: type 1, amount 16, hash h, remote key hash 20, local key hash 20, expiry 8.
 use crate::answer::Written;
 use fiber_bytes::le64;
+use fiber_bytes::part_of;
 use fiber_bytes::put;
 use fiber_bytes::put_le64;
 ghost use mathlib.Core.Path.{_≡_};
+ghost use mathlib.Core.Bool.{cond};
 ghost use Prim.Native.Nat.{_+_, _≤_};
 ghost use lib.ListN.{length};
 ghost use lib.Seq.{sets};
@@ -26,7 +28,7 @@ pub struct Tlc {
 }
 
 pub enum TlcRead {
-    Record(Tlc),
+    Whole(Tlc),
     // Turned down by a row of document 01's table.
     Refused { number: usize, place: usize },
 }
@@ -91,11 +93,39 @@ pub fn read(h: usize, s: &[u8], at: usize) -> TlcRead
             place: at,
         };
     }
-    TlcRead::Record(Tlc {
+    TlcRead::Whole(Tlc {
         kind: s[at],
         amount: amount_at(s, at + 1),
         expiry: le64(s, at + 57 + h),
     })
+}
+
+// The payment hash in a record, of h bytes.
+pub fn payment_hash<'a>(h: usize, tlc: &'a [u8]) -> &'a [u8]
+    ensures { λ r. ⌜ now r ≡ S.paymentHash h (now (tlc .entry)) ⌝ }
+{
+    part_of(tlc, 17, h)
+}
+
+// What stands in front of a key hash beside the payment hash.
+fn before_slot(local: bool) -> usize
+    ensures { λ r. ⌜ r ≡ cond local 37 17 ⌝ }
+{
+    if local { 37 } else { 17 }
+}
+
+// The key hash in the local slot of a record, or in the remote one.
+pub fn key_hash_in<'a>(h: usize, local: bool, tlc: &'a [u8]) -> &'a [u8]
+    ensures { λ r. ⌜ now r ≡ S.keyHashIn h local (now (tlc .entry)) ⌝ }
+{
+    let front = before_slot(local);
+    if tlc.len() < front {
+        return part_of(tlc, front, 20);
+    }
+    if tlc.len() - front < h {
+        return part_of(tlc, tlc.len(), 20);
+    }
+    part_of(tlc, front + h, 20)
 }
 
 // The record's bytes, to an output that has room for them.

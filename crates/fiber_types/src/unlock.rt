@@ -12,6 +12,11 @@ pub const UNLOCK: usize = 67;
 
 pub const UNLOCK_WITH_PREIMAGE: usize = 99;
 
+// The bytes that unlock a share; any other is the place of a TLC.
+pub const REMOTE_SHARE: usize = 0xfe;
+
+pub const LOCAL_SHARE: usize = 0xff;
+
 // What an unlock says of itself. Its signature and its preimage stay where they are, as parts of a slice.
 pub struct Unlock {
     pub byte: u8,
@@ -19,7 +24,7 @@ pub struct Unlock {
 }
 
 pub enum UnlockRead {
-    Record(Unlock),
+    Whole(Unlock),
     // Turned down by a row of document 01's table.
     Refused { number: usize, place: usize },
 }
@@ -64,7 +69,7 @@ pub fn read(s: &[u8], at: usize) -> UnlockRead
             place: at,
         };
     }
-    UnlockRead::Record(u)
+    UnlockRead::Whole(u)
 }
 
 // A flag is written as 0 or 1.

@@ -1,21 +1,25 @@
 // The key of a TLC: the settlement TLC whose local key signs for it.
 use fiber_bytes::part_of;
 use fiber_choice::kinds::Found;
+use fiber_choice::kinds::SETTLEMENT_HASH;
+use fiber_choice::kinds::SETTLEMENT_LOCAL_KEY;
 use fiber_choice::kinds::SETTLEMENT_TLC;
 use fiber_first::entries::same;
 use fiber_types::key::PUBLIC_KEY;
 use fiber_types::key::key_hash;
+use fiber_types::tlc;
 ghost use mathlib.Core.Path.{_≡_};
 ghost use Prim.Native.Nat.{_≤_};
 ghost use lib.ListN.{length};
-ghost use Rattle.fiber_choice.specs.Entries.{entries, settlementLen};
+ghost use Rattle.fiber_choice.specs.Entries.{same, findFirst, entries, settlementLen, localKey};
+ghost use Rattle.fiber_choice.specs.FirstRecords.{hashOf};
 ghost use Rattle.fiber_choice.specs.Verdicts as S;
 
 // Whether a settlement TLC's local key hashes to a key hash.
-fn is_key(tlc: &[u8], ours: &[u8]) -> bool
-    ensures { λ r. ⌜ r ≡ S.isKey (now (tlc .entry)) (now (ours .entry)) ⌝ }
+fn signs_for(tlc: &[u8], ours: &[u8]) -> bool
+    ensures { λ r. ⌜ r ≡ same (hashOf (localKey (now (tlc .entry)))) (now (ours .entry)) ⌝ }
 {
-    let key = key_hash(part_of(tlc, 58, PUBLIC_KEY));
+    let key = key_hash(part_of(tlc, SETTLEMENT_LOCAL_KEY, PUBLIC_KEY));
     let bytes = key.bytes;
     same(&bytes, ours)
 }
@@ -24,14 +28,14 @@ fn is_key(tlc: &[u8], ours: &[u8]) -> bool
 // hash fits.
 fn find_key(tlcs: &[u8], start: &[u8], ours: &[u8]) -> Found
     requires { ⌜ length (now start) ≤ 32 ⌝ }
-    ensures { λ r. ⌜ r ≡ S.findKey 0 (entries settlementLen (now (tlcs .entry))) (now (start .entry)) (now (ours .entry)) ⌝ }
+    ensures { λ r. ⌜ r ≡ findFirst (S.isKey (now (start .entry)) (now (ours .entry))) 0 (entries settlementLen (now (tlcs .entry))) ⌝ }
 {
     let n = tlcs.len() / SETTLEMENT_TLC;
     let mut at = 0;
     for i in 0..n {
         let tlc = &tlcs[at..at + SETTLEMENT_TLC];
-        if same(part_of(tlc, 18, start.len()), start) {
-            if is_key(tlc, ours) {
+        if same(part_of(tlc, SETTLEMENT_HASH, start.len()), start) {
+            if signs_for(tlc, ours) {
                 return Found::At(i);
             }
         }
@@ -40,11 +44,14 @@ fn find_key(tlcs: &[u8], start: &[u8], ours: &[u8]) -> Found
     Found::None
 }
 
-// The key of a TLC's record: by the hash, and by our slot's key hash in the record.
+// The key of a TLC's record: by the hash, and by our slot's key hash in the record. Our slot is local with for_remote.
 pub fn key_of(h: usize, for_remote: bool, tlcs: &[u8], tlc: &[u8]) -> Found
     requires { ⌜ h ≤ 32 ⌝ }
     ensures { λ r. ⌜ r ≡ S.keyOf h «for_remote» (entries settlementLen (now (tlcs .entry))) (now (tlc .entry)) ⌝ }
 {
-    let at = if for_remote { 37 + h } else { 17 + h };
-    find_key(tlcs, part_of(tlc, 17, h), part_of(tlc, at, 20))
+    find_key(
+        tlcs,
+        tlc::payment_hash(h, tlc),
+        tlc::key_hash_in(h, for_remote, tlc),
+    )
 }

@@ -29,7 +29,7 @@ ghost use mathlib.Core.List.{List};
 ghost use Prim.Native.Nat.{ℕ, _+_, _*_, _≤_, _<_};
 ghost use lib.ListN.{length, getD, take};
 ghost use Rattle.fiber_types.specs.Records.{validHashLen};
-ghost use Rattle.fiber_witness.specs.inner.Strided.{sharePlace};
+ghost use Rattle.fiber_witness.specs.inner.Strided.{behindTlcs};
 ghost use Rattle.fiber_witness.specs.Update.{standing};
 ghost use Rattle.fiber_witness.specs.inner.Marks.{marked};
 ghost use Rattle.fiber_choice.specs.Entries.{same, sameLists, entries, trackedLen, trackedRecords};
@@ -40,7 +40,7 @@ ghost use Rattle.fiber_choice.specs.Settlements as S;
 
 // Whether the records that stand of a witness, k of n, are those of the tracked list, one for one.
 fn same_standing(h: usize, w: &[u8], n: usize, marks: [bool; 256], k: usize, tracked: &[u8]) -> bool
-    requires { ⌜ (h ≤ 32) × ((n ≤ 255) × (sharePlace h n ≤ length (now w))) ⌝ }
+    requires { ⌜ (h ≤ 32) × ((n ≤ 255) × (behindTlcs h n ≤ length (now w))) ⌝ }
     requires { ⌜ k ≡ length (standing h (now w) n (marked marks)) ⌝ }
     ensures { λ r. ⌜ r ≡ sameLists (standing h (now (w .entry)) n (marked marks)) (trackedRecords (entries (trackedLen h) (now (tracked .entry)))) ⌝ }
 {
@@ -112,7 +112,7 @@ fn later_ready(
     marks: [bool; 256],
     ours: [u8; 36],
 ) -> Ready
-    requires { ⌜ (scalars .h ≤ 32) × ((n ≤ 255) × (sharePlace (scalars .h) n ≤ length (now w))) ⌝ }
+    requires { ⌜ (scalars .h ≤ 32) × ((n ≤ 255) × (behindTlcs (scalars .h) n ≤ length (now w))) ⌝ }
     ensures { λ r. ⌜ ((args tlcs remoteKey preimages : List ℕ) → r ≡ S.laterReady
         (requestOf scalars args tlcs (now («local_key» .entry)) remoteKey (now (tracked .entry)) preimages)
         (standing (scalars .h) (now (w .entry)) n (marked marks)) ours) ⌝ }
@@ -173,7 +173,7 @@ fn later_state(
     local: [u8; 36],
     out: &mut [u8],
 ) -> ChoiceAnswer
-    requires { ⌜ (validHashLen (scalars .h) ≡ true) × ((n ≤ 255) × ((sharePlace (scalars .h) n ≤ length (now w)) × (36 ≤ length (now args)))) ⌝ }
+    requires { ⌜ (validHashLen (scalars .h) ≡ true) × ((n ≤ 255) × ((behindTlcs (scalars .h) n ≤ length (now w)) × (36 ≤ length (now args)))) ⌝ }
     ensures { λ r. ⌜ Gives
         (S.laterState
         (requestOf scalars (now (args .entry)) (now (tlcs .entry)) (now («local_key» .entry)) (now («remote_key» .entry))
@@ -236,14 +236,14 @@ pub fn choose_later(
         WitnessRead::Whole {
             n,
             unlock_count: _,
-            share_place: share,
-            first_unlock: first,
+            share_place,
+            first_unlock,
         } => {
-            let j = take_unlocks(w, n, first);
+            let j = take_unlocks(w, n, first_unlock);
             let answer = j.answer;
             let marks = j.marks;
-            let remote = share_left(w, share, j.remote);
-            let local = share_left(w, share + SHARE, j.local);
+            let remote = share_left(w, share_place, j.remote);
+            let local = share_left(w, share_place + SHARE, j.local);
             match answer {
                 UnlocksAnswer::Refused { number, place } => ChoiceAnswer::Refused { number, place },
                 UnlocksAnswer::Fine => later_state(

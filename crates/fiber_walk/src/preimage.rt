@@ -2,6 +2,8 @@
 use fiber_bytes::part_of;
 use fiber_choice::kinds::Found;
 use fiber_choice::kinds::PAIR;
+use fiber_choice::kinds::PAIR_PREIMAGE;
+use fiber_choice::kinds::TRACKED_ALGORITHM;
 use fiber_first::entries::same;
 use fiber_types::blake2b::ckb_hash;
 use fiber_types::sha256::sha256;
@@ -23,7 +25,7 @@ fn digest(algorithm: u8, s: &[u8]) -> [u8; 32]
 
 // The first pair with a hash; no other pair with it is looked at.
 pub fn find_pair(preimages: &[u8], hash: &[u8]) -> Found
-    ensures { λ r. ⌜ r ≡ S.findPair 0 (entries pairLen (now (preimages .entry))) (now (hash .entry)) ⌝ }
+    ensures { λ r. ⌜ r ≡ S.findPair (entries pairLen (now (preimages .entry))) (now (hash .entry)) ⌝ }
 {
     let n = preimages.len() / PAIR;
     let mut at = 0;
@@ -37,23 +39,26 @@ pub fn find_pair(preimages: &[u8], hash: &[u8]) -> Found
 }
 
 // Whether the preimage in the pair at a place has the tracked TLC's hash under its algorithm.
-pub fn counts(preimages: &[u8], pair: usize, tracked: &[u8]) -> bool
-    requires { ⌜ (64 * pair + 64 ≤ length (now preimages)) × (33 ≤ length (now tracked)) ⌝ }
-    ensures { λ r. ⌜ r ≡ S.countsAt (entries pairLen (now (preimages .entry))) (now (tracked .entry)) pair ⌝ }
+pub fn counts(preimages: &[u8], pair_place: usize, tracked_tlc: &[u8]) -> bool
+    requires { ⌜ (pairLen * «pair_place» + pairLen ≤ length (now preimages)) × (33 ≤ length (now «tracked_tlc»)) ⌝ }
+    ensures { λ r. ⌜ r ≡ S.countsAt (entries pairLen (now (preimages .entry))) (now («tracked_tlc» .entry)) «pair_place» ⌝ }
 {
-    let found = digest(tracked[32], part_of(preimages, PAIR * pair + 32, 32));
-    same(&found, part_of(tracked, 0, 32))
+    let found = digest(
+        tracked_tlc[TRACKED_ALGORITHM],
+        part_of(preimages, PAIR * pair_place + PAIR_PREIMAGE, 32),
+    );
+    same(&found, part_of(tracked_tlc, 0, 32))
 }
 
 // The first pair with the tracked TLC's hash, if its preimage counts.
-pub fn counting_pair(preimages: &[u8], tracked: &[u8]) -> Found
-    requires { ⌜ 33 ≤ length (now tracked) ⌝ }
-    ensures { λ r. ⌜ r ≡ S.countingPair (entries pairLen (now (preimages .entry))) (now (tracked .entry)) ⌝ }
+pub fn counting_pair(preimages: &[u8], tracked_tlc: &[u8]) -> Found
+    requires { ⌜ 33 ≤ length (now «tracked_tlc») ⌝ }
+    ensures { λ r. ⌜ r ≡ S.countingPair (entries pairLen (now (preimages .entry))) (now («tracked_tlc» .entry)) ⌝ }
 {
-    match find_pair(preimages, part_of(tracked, 0, 32)) {
-        Found::At(pair) => {
-            if counts(preimages, pair, tracked) {
-                Found::At(pair)
+    match find_pair(preimages, part_of(tracked_tlc, 0, 32)) {
+        Found::At(pair_place) => {
+            if counts(preimages, pair_place, tracked_tlc) {
+                Found::At(pair_place)
             } else {
                 Found::None
             }

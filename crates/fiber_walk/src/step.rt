@@ -11,6 +11,7 @@ use fiber_choice::kinds::Choice;
 use fiber_choice::kinds::Dues;
 use fiber_choice::kinds::Found;
 use fiber_choice::kinds::Key;
+use fiber_choice::kinds::SETTLEMENT_EXPIRY;
 use fiber_choice::kinds::SETTLEMENT_TLC;
 use fiber_choice::kinds::Stage;
 use fiber_choice::kinds::Step;
@@ -50,13 +51,13 @@ fn timeout_step(time: u64, ms: u64, key: usize, place: usize, pending: usize) ->
 }
 
 // Taken by the preimage of a pair.
-fn ready_step(pair: usize, key: usize, place: usize) -> Step
-    ensures { λ r. ⌜ ((time pending : ℕ) → r ≡ W.stepOf time place pending (W.ready pair key)) ⌝ }
+fn ready_step(pair_place: usize, key: usize, place: usize) -> Step
+    ensures { λ r. ⌜ ((time pending : ℕ) → r ≡ W.stepOf time place pending (W.ready «pair_place» key)) ⌝ }
 {
     Step::Chosen {
         choice: Choice::Tlc {
             place,
-            way: Way::Preimage(pair),
+            way: Way::Preimage(pair_place),
         },
         key: Key::Tlc(key),
     }
@@ -85,8 +86,8 @@ fn later_timeout(
     pending: usize,
 ) -> Step
     requires { ⌜ h ≤ 32 ⌝ }
-    ensures { λ r. ⌜ ((pair : found·.Found) → r ≡ W.stepOf time place pending
-        (S.byKey true ms pair (S.keyOf h «for_remote» (entries settlementLen (now (tlcs .entry))) (now (tlc .entry))))) ⌝ }
+    ensures { λ r. ⌜ ((foundPair : found·.Found) → r ≡ W.stepOf time place pending
+        (S.byKey true ms foundPair (S.keyOf h «for_remote» (entries settlementLen (now (tlcs .entry))) (now (tlc .entry))))) ⌝ }
 {
     if time <= ms {
         return Step::Pending(pending);
@@ -104,23 +105,23 @@ fn later_preimage(
     for_remote: bool,
     tlcs: &[u8],
     preimages: &[u8],
-    tracked: &[u8],
+    tracked_tlc: &[u8],
     time: u64,
     ms: u64,
     place: usize,
     pending: usize,
 ) -> Step
-    requires { ⌜ (h ≤ 32) × ((length (now tracked) ≡ 98 + h) × (0 < pending)) ⌝ }
+    requires { ⌜ (h ≤ 32) × ((length (now «tracked_tlc») ≡ 98 + h) × (0 < pending)) ⌝ }
     ensures { λ r. ⌜ r ≡ W.stepOf time place pending (S.byKey false ms
-        (countingPair (entries pairLen (now (preimages .entry))) (now (tracked .entry)))
-        (S.keyOf h «for_remote» (entries settlementLen (now (tlcs .entry))) (trackedRecord (now (tracked .entry))))) ⌝ }
+        (countingPair (entries pairLen (now (preimages .entry))) (now («tracked_tlc» .entry)))
+        (S.keyOf h «for_remote» (entries settlementLen (now (tlcs .entry))) (trackedRecord (now («tracked_tlc» .entry))))) ⌝ }
 {
-    let tlc = part_of(tracked, TRACKED_RECORD, TLC_FIXED + h);
-    match find_pair(preimages, part_of(tracked, 0, 32)) {
-        Found::At(pair) => match key_of(h, for_remote, tlcs, tlc) {
+    let tlc = part_of(tracked_tlc, TRACKED_RECORD, TLC_FIXED + h);
+    match find_pair(preimages, part_of(tracked_tlc, 0, 32)) {
+        Found::At(pair_place) => match key_of(h, for_remote, tlcs, tlc) {
             Found::At(key) => {
-                if counts(preimages, pair, tracked) {
-                    return ready_step(pair, key, place);
+                if counts(preimages, pair_place, tracked_tlc) {
+                    return ready_step(pair_place, key, place);
                 }
                 falls_step(time, ms, pending)
             }
@@ -145,16 +146,16 @@ fn later_step(
     time: u64,
     tlcs: &[u8],
     preimages: &[u8],
-    tracked: &[u8],
+    tracked_tlc: &[u8],
     place: usize,
     pending: usize,
 ) -> Step
-    requires { ⌜ (validHashLen h ≡ true) × ((length (now tracked) ≡ 98 + h) × (0 < pending)) ⌝ }
+    requires { ⌜ (validHashLen h ≡ true) × ((length (now «tracked_tlc») ≡ 98 + h) × (0 < pending)) ⌝ }
     ensures { λ r. ⌜ r ≡ W.stepOf time place pending (S.laterVerdict h «for_remote» (entries settlementLen (now (tlcs .entry)))
-        (entries pairLen (now (preimages .entry))) (now (tracked .entry))) ⌝ }
+        (entries pairLen (now (preimages .entry))) (now («tracked_tlc» .entry))) ⌝ }
 {
-    let record = part_of(tracked, TRACKED_RECORD, TLC_FIXED + h);
-    let TlcRead::Record(tlc) = tlc::read(h, record, 0) else {
+    let record = part_of(tracked_tlc, TRACKED_RECORD, TLC_FIXED + h);
+    let TlcRead::Whole(tlc) = tlc::read(h, record, 0) else {
         return Step::Pending(pending);
     };
     let Expiry::At(ms) = absolute_expiry(tlc.expiry) else {
@@ -168,7 +169,7 @@ fn later_step(
         for_remote,
         tlcs,
         preimages,
-        tracked,
+        tracked_tlc,
         time,
         ms,
         place,
@@ -183,15 +184,15 @@ fn first_step(
     dues: Dues,
     preimages: &[u8],
     tlc: &[u8],
-    tracked: &[u8],
+    tracked_tlc: &[u8],
     place: usize,
     pending: usize,
 ) -> Step
-    requires { ⌜ (length (now tlc) ≡ 124) × ((33 ≤ length (now tracked)) × (0 < pending)) ⌝ }
+    requires { ⌜ (length (now tlc) ≡ settlementLen) × ((33 ≤ length (now «tracked_tlc»)) × (0 < pending)) ⌝ }
     ensures { λ r. ⌜ r ≡ W.stepOf time place pending (S.firstVerdict «for_remote» (entries pairLen (now (preimages .entry))) dues
-        place (now (tlc .entry)) (now (tracked .entry))) ⌝ }
+        place (now (tlc .entry)) (now («tracked_tlc» .entry))) ⌝ }
 {
-    let ms = le64(tlc, 50);
+    let ms = le64(tlc, SETTLEMENT_EXPIRY);
     if timeout_kind(for_remote, tlc[0] == 0) {
         if dues.two_thirds {
             return timeout_step(time, ms, place, place, pending);
@@ -201,8 +202,8 @@ fn first_step(
     if !dues.third {
         return Step::Pending(pending);
     }
-    match counting_pair(preimages, tracked) {
-        Found::At(pair) => ready_step(pair, place, place),
+    match counting_pair(preimages, tracked_tlc) {
+        Found::At(pair_place) => ready_step(pair_place, place, place),
         Found::None => {
             if dues.full {
                 return falls_step(time, ms, pending);
@@ -220,14 +221,14 @@ pub fn step(
     stage: Stage,
     tlcs: &[u8],
     preimages: &[u8],
-    tracked: &[u8],
+    tracked_tlc: &[u8],
     place: usize,
     pending: usize,
 ) -> Step
-    requires { ⌜ (validHashLen h ≡ true) × ((length (now tracked) ≡ 98 + h) × (0 < pending)) ⌝ }
+    requires { ⌜ (validHashLen h ≡ true) × ((length (now «tracked_tlc») ≡ 98 + h) × (0 < pending)) ⌝ }
     requires { ⌜ (place ≤ 254) × Reaches stage place (length (entries settlementLen (now tlcs))) ⌝ }
     ensures { λ r. ⌜ r ≡ W.stepOf time place pending (S.verdict h «for_remote» (entries settlementLen (now (tlcs .entry)))
-        (entries pairLen (now (preimages .entry))) stage place (now (tracked .entry))) ⌝ }
+        (entries pairLen (now (preimages .entry))) stage place (now («tracked_tlc» .entry))) ⌝ }
 {
     match stage {
         Stage::First(dues) => first_step(
@@ -236,7 +237,7 @@ pub fn step(
             dues,
             preimages,
             part_of(tlcs, place * SETTLEMENT_TLC, SETTLEMENT_TLC),
-            tracked,
+            tracked_tlc,
             place,
             pending,
         ),
@@ -246,7 +247,7 @@ pub fn step(
             time,
             tlcs,
             preimages,
-            tracked,
+            tracked_tlc,
             place,
             pending,
         ),

@@ -32,19 +32,19 @@ abbrev pub Left : ℕ → List ℕ → Written → Type 0
 Left h o (written·.Bytes len) = Whole h (take len o)
 Left h o (written·.Refused number place) = Unit {0}
 
-module _ (h : ℕ) (w out : List ℕ) (n share first : ℕ) (f : Fine h w n share first) where
+module _ (h : ℕ) (w out : List ℕ) (n sharePlace first : ℕ) (f : Fine h w n sharePlace first) where
   -- the state left is whole
-  whole-state : (t : Taken) → Whole h (stateLeft h w n share t)
+  whole-state : (t : Taken) → Whole h (stateLeft h w n sharePlace t)
   unfolding stateLeft stateBytes
   whole-state t = record {
     small = f .small;
-    size = omega (arith, state-length h w n share t (f .shares), standing-length h w n (t .settled) (omega (arith, f .tlcs, f .shares)));
+    size = omega (arith, state-length h w n sharePlace t (f .shares), standing-length h w n (t .settled) (omega (arith, f .tlcs, f .shares)));
   }
 
-  left-unlocked : {x : Unlocked} → Comes n share x → Left h (written h w out x .bytes) (written h w out x .answer)
+  left-unlocked : {x : Unlocked} → Comes n sharePlace x → Left h (written h w out x .bytes) (written h w out x .answer)
   unfolding written
   left-unlocked (comes-fine t) =
-      outcome-by (Left h) (stateLeft h w n share t) out (λ g. subst (Whole h) (sym (take-sets out (stateLeft h w n share t) g)) (whole-state t)) tt
+      outcome-by (Left h) (stateLeft h w n sharePlace t) out (λ g. subst (Whole h) (sym (take-sets out (stateLeft h w n sharePlace t) g)) (whole-state t)) tt
   left-unlocked (comes-faulty number place z) = tt
 
 -- What an update that was taken leaves is a whole state.
@@ -53,5 +53,5 @@ unfolding updated unlocked byRead written
 left h w out = go (readWitness h w) (fine h w)
   where
     go : (r : WitnessRead) → FineRead h w r → Left h (written h w out (byRead w r) .bytes) (written h w out (byRead w r) .answer)
-    go (read·.Whole n k share first) f = left-unlocked h w out n share first f (unlocks-come n share w none (places w first))
+    go (read·.Whole n k sharePlace first) f = left-unlocked h w out n sharePlace first f (unlocks-come n sharePlace w none (places w first))
     go (read·.Refused number place) f = tt

@@ -4,17 +4,17 @@ use Prim.Native.Nat.{ℕ, _+_, _*_, _≤_}
 use native.Mathlib.Omega.{arith}
 use mathlib.Core.Path.{_≡_, refl, sym, ap, _∙_}
 use mathlib.Core.Bool.{true}
-use mathlib.Core.List.{List, [], _∷_, _++_, append-nil, append-assoc}
+use mathlib.Core.List.{List, [], _∷_, _++_, append-nil, append-assoc, flatten}
 use lib.ListN.{length, getD, take, drop, length-append, length-drop}
 use lib.Seq.{drop-cons, drop-drop, take-at, drop-at, take-all}
 use Rattle.fiber_bytes.specs.Bytes.{part}
 use Rattle.fiber_bytes.proofs.BytesLaws.{part-add, part-length}
 use Rattle.fiber_types.specs.Records.{validHashLen}
 use Rattle.fiber_witness.specs.declared.witness.WitnessRead.the-variants.{Whole, Refused}
-use Rattle.fiber_witness.specs.Witness.{recordLen, records, flat, stateBytes, places, unlessCut, readUnlocks, readTlcs, readWitness}
+use Rattle.fiber_witness.specs.Witness.{recordLen, chunks, stateBytes, places, unlessCut, readUnlocks, readTlcs, readWitness}
 use Rattle.fiber_witness.specs.Update.{Taken, keep, shareLeft, standing, stateLeft}
-use Rattle.fiber_witness.specs.inner.Strided.{sharePlace}
-use Rattle.fiber_witness.proofs.WitnessLaws.{shares-whole, witness-tlcs, Even, flat-even, records-even, records-length, even-records, flat-records, state-size}
+use Rattle.fiber_witness.specs.inner.Strided.{behindTlcs}
+use Rattle.fiber_witness.proofs.WitnessLaws.{shares-whole, witness-tlcs, Even, flatten-even, records-even, records-length, even-records, flatten-records, state-size}
 use Rattle.fiber_witness.proofs.UpdateLaws.{keep-few, even-keep, left-length}
 
 -- what a channel whose hashes have h bytes can keep
@@ -41,18 +41,18 @@ sound-left {h} {rs} {R} {L} ok t = record {
 module _ {h : ℕ} {rs : List (List ℕ)} {R L : List ℕ} (ok : Sound h rs R L) where
   -- the count, the TLCs, two shares
   pub sound-length : length (stateBytes rs R L) ≡ 1 + length rs * recordLen h + 72
-  sound-length = omega (arith, state-size rs R L (ok .remote) (ok .local), flat-even (ok .even))
+  sound-length = omega (arith, state-size rs R L (ok .remote) (ok .local), flatten-even (ok .even))
 
   -- the parts of a list that has the TLCs and the shares from a place d on
-  module _ (x rest : List ℕ) (d : ℕ) (e : drop d x ≡ flat rs ++ (R ++ (L ++ rest))) where
-    tlcs-part : records (recordLen h) (length rs) (drop d x) ≡ rs
-    tlcs-part = ap (records (recordLen h) (length rs)) e ∙ records-even (ok .even) (R ++ (L ++ rest))
+  module _ (x rest : List ℕ) (d : ℕ) (e : drop d x ≡ flatten rs ++ (R ++ (L ++ rest))) where
+    tlcs-part : chunks (recordLen h) (length rs) (drop d x) ≡ rs
+    tlcs-part = ap (chunks (recordLen h) (length rs)) e ∙ records-even (ok .even) (R ++ (L ++ rest))
 
     shares-drop : drop (d + length rs * recordLen h) x ≡ R ++ (L ++ rest)
     shares-drop =
         sym (drop-drop (length rs * recordLen h) d x)
         ∙ ap (drop (length rs * recordLen h)) e
-        ∙ drop-at (flat rs) (R ++ (L ++ rest)) (length rs * recordLen h) (flat-even (ok .even))
+        ∙ drop-at (flatten rs) (R ++ (L ++ rest)) (length rs * recordLen h) (flatten-even (ok .even))
 
     remote-part : part x (d + length rs * recordLen h) 36 ≡ R
     remote-part = ap (take 36) shares-drop ∙ take-at R (L ++ rest) 36 (ok .remote)
@@ -63,15 +63,15 @@ module _ {h : ℕ} {rs : List (List ℕ)} {R L : List ℕ} (ok : Sound h rs R L)
         ∙ take-at L rest 36 (ok .local)
 
   -- the state's own parts
-  state-tail : drop 1 (stateBytes rs R L) ≡ flat rs ++ (R ++ (L ++ []))
+  state-tail : drop 1 (stateBytes rs R L) ≡ flatten rs ++ (R ++ (L ++ []))
   unfolding stateBytes
   state-tail = simp append-nil
 
-  state-count : getD (stateBytes rs R L) 0 0 ≡ length rs
+  pub state-count : getD (stateBytes rs R L) 0 0 ≡ length rs
   unfolding stateBytes
   state-count = refl
 
-  pub state-tlcs : records (recordLen h) (getD (stateBytes rs R L) 0 0) (drop 1 (stateBytes rs R L)) ≡ rs
+  pub state-tlcs : chunks (recordLen h) (getD (stateBytes rs R L) 0 0) (drop 1 (stateBytes rs R L)) ≡ rs
   state-tlcs = rw state-count (tlcs-part (stateBytes rs R L) [] 1 state-tail)
 
   pub state-remote : part (stateBytes rs R L) (1 + getD (stateBytes rs R L) 0 0 * recordLen h) 36 ≡ R
@@ -81,7 +81,7 @@ module _ {h : ℕ} {rs : List (List ℕ)} {R L : List ℕ} (ok : Sound h rs R L)
   state-local = rw state-count (local-part (stateBytes rs R L) [] 1 state-tail)
 
   -- the first unlock of a witness that holds it stands behind it
-  pub first-place : sharePlace h (length rs) + 72 ≡ 1 + length (stateBytes rs R L)
+  pub first-place : behindTlcs h (length rs) + 72 ≡ 1 + length (stateBytes rs R L)
   first-place = omega (arith, sound-length)
 
   -- ---- a witness that holds it, between a count byte and bytes behind it
@@ -90,7 +90,7 @@ module _ {h : ℕ} {rs : List (List ℕ)} {R L : List ℕ} (ok : Sound h rs R L)
     abbrev w : List ℕ
     w = count ∷ (stateBytes rs R L ++ behind)
 
-    w-tail : drop 2 w ≡ flat rs ++ (R ++ (L ++ behind))
+    w-tail : drop 2 w ≡ flatten rs ++ (R ++ (L ++ behind))
     unfolding stateBytes
     w-tail = simp append-assoc
 
@@ -98,23 +98,23 @@ module _ {h : ℕ} {rs : List (List ℕ)} {R L : List ℕ} (ok : Sound h rs R L)
     unfolding stateBytes
     w-count = refl
 
-    w-room : sharePlace h (length rs) + 72 ≤ length w
+    w-room : behindTlcs h (length rs) + 72 ≤ length w
     w-room = omega (arith, length-append (stateBytes rs R L) behind, sound-length)
 
     -- it is whole but for its unlocks
     pub read-sound : readWitness h w
         ≡ unlessCut w (places w (1 + length (stateBytes rs R L))) (Refused 4)
-        (Whole (length rs) (length (places w (1 + length (stateBytes rs R L)))) (sharePlace h (length rs)) (1 + length (stateBytes rs R L)))
+        (Whole (length rs) (length (places w (1 + length (stateBytes rs R L)))) (behindTlcs h (length rs)) (1 + length (stateBytes rs R L)))
     unfolding readUnlocks
     read-sound =
         sym (witness-tlcs h w (ok .hash) (omega (arith, w-room)))
         ∙ ap (λ (n : ℕ). readTlcs n h w n 2) w-count
         ∙ sym (shares-whole h w (length rs) (omega (arith, w-room)) w-room)
-        ∙ ap (λ (f : ℕ). unlessCut w (places w f) (Refused 4) (Whole (length rs) (length (places w f)) (sharePlace h (length rs)) f)) first-place
+        ∙ ap (λ (f : ℕ). unlessCut w (places w f) (Refused 4) (Whole (length rs) (length (places w f)) (behindTlcs h (length rs)) f)) first-place
 
     -- what unlocks leave of the witness is what they leave of the state
     pub state-left : (t : Taken)
-        → stateLeft h w (length rs) (sharePlace h (length rs)) t ≡ stateBytes (keep (t .settled) 0 rs) (shareLeft (t .remote) R) (shareLeft (t .local) L)
+        → stateLeft h w (length rs) (behindTlcs h (length rs)) t ≡ stateBytes (keep (t .settled) 0 rs) (shareLeft (t .remote) R) (shareLeft (t .local) L)
     unfolding stateLeft standing
     state-left t = rw (tlcs-part w behind 2 w-tail, remote-part w behind 2 w-tail, local-part w behind 2 w-tail)
 
@@ -126,7 +126,7 @@ module _ (h : ℕ) (s : List ℕ) (e : length s ≡ 1 + getD s 0 0 * recordLen h
 
   -- they are sound
   pub parts-sound : validHashLen h ≡ true → getD s 0 0 ≤ 255
-      → Sound h (records (recordLen h) (getD s 0 0) (drop 1 s)) (part s (1 + getD s 0 0 * recordLen h) 36) (part s (1 + getD s 0 0 * recordLen h + 36) 36)
+      → Sound h (chunks (recordLen h) (getD s 0 0) (drop 1 s)) (part s (1 + getD s 0 0 * recordLen h) 36) (part s (1 + getD s 0 0 * recordLen h + 36) 36)
   parts-sound k f = record {
     hash = k;
     few = omega (arith, records-length (recordLen h) (getD s 0 0) (drop 1 s));
@@ -136,7 +136,7 @@ module _ (h : ℕ) (s : List ℕ) (e : length s ≡ 1 + getD s 0 0 * recordLen h
   }
 
   -- and the list is the state of them
-  pub parts-state : stateBytes (records (recordLen h) (getD s 0 0) (drop 1 s)) (part s (1 + getD s 0 0 * recordLen h) 36) (part s (1 + getD s 0 0 * recordLen h + 36) 36) ≡ s
+  pub parts-state : stateBytes (chunks (recordLen h) (getD s 0 0) (drop 1 s)) (part s (1 + getD s 0 0 * recordLen h) 36) (part s (1 + getD s 0 0 * recordLen h + 36) 36) ≡ s
   unfolding stateBytes
   parts-state =
       let k = recordLen h in
@@ -145,7 +145,7 @@ module _ (h : ℕ) (s : List ℕ) (e : length s ≡ 1 + getD s 0 0 * recordLen h
       sym (part-add s (1 + n * k) 36 36)
       ∙ take-all 72 (drop (1 + n * k) s) (simp length-drop (omega (arith, e)))
       ∙ sym (drop-drop (n * k) 1 s) in
-      ap (λ (m : ℕ). m ∷ (flat (records k n (drop 1 s)) ++ (part s (1 + n * k) 36 ++ part s (1 + n * k + 36) 36))) (records-length k n (drop 1 s))
-      ∙ ap (λ (r : List ℕ). n ∷ (flat (records k n (drop 1 s)) ++ r)) shares
-      ∙ ap (λ (r : List ℕ). n ∷ r) (flat-records k n (drop 1 s))
+      ap (λ (m : ℕ). m ∷ (flatten (chunks k n (drop 1 s)) ++ (part s (1 + n * k) 36 ++ part s (1 + n * k + 36) 36))) (records-length k n (drop 1 s))
+      ∙ ap (λ (r : List ℕ). n ∷ (flatten (chunks k n (drop 1 s)) ++ r)) shares
+      ∙ ap (λ (r : List ℕ). n ∷ r) (flatten-records k n (drop 1 s))
       ∙ sym (drop-cons s 0 0 (omega (arith, e)))

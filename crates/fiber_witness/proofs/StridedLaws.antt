@@ -5,16 +5,15 @@ use native.Mathlib.Nat.{sub-zero, sub-eq-zero-of-le, suc-mul}
 use native.Mathlib.Omega.{arith}
 use mathlib.Core.Path.{_≡_, refl, sym, ap, _∙_}
 use mathlib.Core.Bool.{Bool, true, false, cond}
-use mathlib.Core.List.{List, [], _∷_, _++_, append-assoc}
+use mathlib.Core.List.{List, [], _∷_, _++_, append-assoc, flatten}
 use lib.ListN.{length, getD, take, drop, set, length-append}
 use lib.Seq.{sets, length-sets, drop-drop, take-all}
 use Rattle.fiber_bytes.specs.Bytes.{part}
-use Rattle.fiber_bytes.proofs.BytesLaws.{part-length, sets-append, sets-then, sets-fill}
-use Rattle.fiber_witness.specs.Witness.{recordLen, records, flat, stateBytes}
+use Rattle.fiber_bytes.proofs.BytesLaws.{part-length, sets-append, sets-then, sets-fill, one-less}
+use Rattle.fiber_witness.specs.Witness.{recordLen, chunks, stateBytes}
 use Rattle.fiber_witness.specs.Update.{keep, shareLeft, standing, stateLeft}
 use Rattle.fiber_witness.specs.inner.Marks.{Marks, marked, noMarks}
 use Rattle.fiber_witness.specs.inner.Strided.{strided, unmarked}
-use Rattle.fiber_witness.proofs.WitnessLaws.{left}
 use Rattle.fiber_witness.proofs.UpdateLaws.{marks-marked, marks-none, marks-set, keep-marked, keep-few, part-between}
 
 -- ---- the records
@@ -35,11 +34,11 @@ strided-length size stride zero s from = refl
 strided-length size stride (suc m) s from = ap suc (strided-length size stride m s (from + stride))
 
 -- those that follow one another, as in a witness
-strided-records : (size m : ℕ) (s : List ℕ) (from : ℕ) → strided size size m s from ≡ records size m (drop from s)
-unfolding strided records
+strided-records : (size m : ℕ) (s : List ℕ) (from : ℕ) → strided size size m s from ≡ chunks size m (drop from s)
+unfolding strided chunks
 strided-records size zero s from = refl
 strided-records size (suc m) s from =
-    ap (λ (rs : List (List ℕ)). part s from size ∷ rs) (strided-records size m s (from + size) ∙ ap (records size m) (sym (drop-drop size from s)))
+    ap (λ (rs : List (List ℕ)). part s from size ∷ rs) (strided-records size m s (from + size) ∙ ap (chunks size m) (sym (drop-drop size from s)))
 
 -- the TLCs of a witness that are not marked are those that stand
 pub unmarked-standing : (h : ℕ) (w : List ℕ) (n : ℕ) (marks : List Bool) → unmarked h w 2 (recordLen h) n marks ≡ standing h w n (marked marks)
@@ -63,26 +62,26 @@ unfolding noMarks
 marks-one marks place e g = rw e (marks-set noMarks [] place (omega arith) marks-none)
 
 -- with two shares, unlocked or not, they are the state left
-pub unmarked-left : (h : ℕ) (w : List ℕ) (n share : ℕ) (marks : List Bool) (remote local : Bool) (out o : List ℕ)
-    → o ≡ sets out 0 (stateBytes (unmarked h w 2 (recordLen h) n marks) (shareLeft remote (take (share + 36 - share) (drop share w))) (shareLeft local (take (share + 36 + 36 - (share + 36)) (drop (share + 36) w))))
-    → o ≡ sets out 0 (stateLeft h w n share (record { settled = marked marks; remote = remote; local = local }))
+pub unmarked-left : (h : ℕ) (w : List ℕ) (n sharePlace : ℕ) (marks : List Bool) (remote local : Bool) (out o : List ℕ)
+    → o ≡ sets out 0 (stateBytes (unmarked h w 2 (recordLen h) n marks) (shareLeft remote (take (sharePlace + 36 - sharePlace) (drop sharePlace w))) (shareLeft local (take (sharePlace + 36 + 36 - (sharePlace + 36)) (drop (sharePlace + 36) w))))
+    → o ≡ sets out 0 (stateLeft h w n sharePlace (record { settled = marked marks; remote = remote; local = local }))
 unfolding stateLeft
-unmarked-left h w n share marks remote local out o e = e ∙ rw (part-between w share 36, part-between w (share + 36) 36, unmarked-standing h w n marks)
+unmarked-left h w n sharePlace marks remote local out o e = e ∙ rw (part-between w sharePlace 36, part-between w (sharePlace + 36) 36, unmarked-standing h w n marks)
 
 -- ---- writing the records that are not marked
 
 module _ (h : ℕ) (s : List ℕ) (from₀ stride n : ℕ) (marks : List Bool) where
   -- what is left to write: the records from place i on, read from place from
   unfoldable pub rest : ℕ → ℕ → List ℕ
-  rest from i = flat (keep (marked marks) i (strided (recordLen h) stride (n - i) s from))
+  rest from i = flatten (keep (marked marks) i (strided (recordLen h) stride (n - i) s from))
 
   -- The loop that writes them: to write what is left, from here, gives what the whole gives.
   pub record Writing (out₀ out : List ℕ) (from at i : ℕ) : Type 0 where
     pub low : i ≤ n
     pub room : from + (n - i) * stride + recordLen h ≤ length s + stride
     pub same : length out ≡ length out₀
-    pub ends : at + length (rest from i) ≡ 1 + length (flat (unmarked h s from₀ stride n marks))
-    pub writes : sets out at (rest from i) ≡ sets out₀ 1 (flat (unmarked h s from₀ stride n marks))
+    pub ends : at + length (rest from i) ≡ 1 + length (flatten (unmarked h s from₀ stride n marks))
+    pub writes : sets out at (rest from i) ≡ sets out₀ 1 (flatten (unmarked h s from₀ stride n marks))
 
   -- before the first record, all is left
   pub writing-start : (out : List ℕ) → from₀ + n * stride + recordLen h ≤ length s + stride → Writing out out from₀ 1 0
@@ -92,17 +91,17 @@ module _ (h : ℕ) (s : List ℕ) (from₀ stride n : ℕ) (marks : List Bool) w
   module _ (out₀ out : List ℕ) (from at i : ℕ) (c : Writing out₀ out from at i) where
     -- behind the last record nothing is left
     rest-none : n ≤ i → rest from i ≡ []
-    unfolding rest flat keep strided
+    unfolding rest flatten keep strided
     rest-none g = rw (sub-eq-zero-of-le g)
 
     -- so all is written
-    pub writing-end : n ≤ i → (at ≡ 1 + length (flat (unmarked h s from₀ stride n marks))) × (out ≡ sets out₀ 1 (flat (unmarked h s from₀ stride n marks)))
+    pub writing-end : n ≤ i → (at ≡ 1 + length (flatten (unmarked h s from₀ stride n marks))) × (out ≡ sets out₀ 1 (flatten (unmarked h s from₀ stride n marks)))
     writing-end g = (omega (arith, rw (rest-none g) at (c .ends)), rw (rest-none g) at (c .writes))
 
     module _ (g : i < n) where
       -- the bytes of one record more
       room-step : (n - i) * stride ≡ (n - (i + 1)) * stride + stride
-      room-step = ap (λ (m : ℕ). m * stride) (left n i g) ∙ suc-mul (n - (i + 1)) stride
+      room-step = ap (λ (m : ℕ). m * stride) (one-less n i g) ∙ suc-mul (n - (i + 1)) stride
 
       -- the record at place from is whole
       pub writing-from : from + recordLen h ≤ length s
@@ -111,10 +110,10 @@ module _ (h : ℕ) (s : List ℕ) (from₀ stride n : ℕ) (marks : List Bool) w
       -- what is left, by the mark of place i
       rest-cons : (b : Bool) → getD marks i false ≡ b
           → rest from i
-          ≡ flat (cond b (keep (marked marks) (i + 1) (strided (recordLen h) stride (n - (i + 1)) s (from + stride)))
+          ≡ flatten (cond b (keep (marked marks) (i + 1) (strided (recordLen h) stride (n - (i + 1)) s (from + stride)))
           (part s from (recordLen h) ∷ keep (marked marks) (i + 1) (strided (recordLen h) stride (n - (i + 1)) s (from + stride))))
       unfolding rest keep strided Marks
-      rest-cons b m = rw (left n i g, sym (marks-marked marks i) ∙ m)
+      rest-cons b m = rw (one-less n i g, sym (marks-marked marks i) ∙ m)
 
       -- a record that is marked is passed
       pub writing-gone : getD marks i false ≡ true → Writing out₀ out (from + stride) at (i + 1)
@@ -132,7 +131,7 @@ module _ (h : ℕ) (s : List ℕ) (from₀ stride n : ℕ) (marks : List Bool) w
       module _ (m : getD marks i false ≡ false) where
         -- another is the first of what is left
         rest-kept : rest from i ≡ part s from (recordLen h) ++ rest (from + stride) (i + 1)
-        unfolding rest flat
+        unfolding rest flatten
         rest-kept = rest-cons false m
 
         -- by its length
@@ -172,16 +171,16 @@ share-copied w from o l e g f =
 
 module _ (rs : List (List ℕ)) (remote local : List ℕ) (e : length remote ≡ 36) (f : length local ≡ 36) where
   -- the four writes of a state are one
-  pub state-puts : (k at : ℕ) (out o₁ o₂ o₃ : List ℕ) → k ≡ length rs → at ≡ 1 + length (flat rs)
-      → o₁ ≡ sets (set out 0 k) 1 (flat rs)
+  pub state-puts : (k at : ℕ) (out o₁ o₂ o₃ : List ℕ) → k ≡ length rs → at ≡ 1 + length (flatten rs)
+      → o₁ ≡ sets (set out 0 k) 1 (flatten rs)
       → o₂ ≡ sets o₁ at remote
       → o₃ ≡ sets o₂ (at + 36) local
       → o₃ ≡ sets out 0 (stateBytes rs remote local)
   unfolding stateBytes
   state-puts k at out o₁ o₂ o₃ ek ea e₁ e₂ e₃ =
-      let F : List ℕ = k ∷ flat rs in
+      let F : List ℕ = k ∷ flatten rs in
       let a : at ≡ length F = omega arith in
       let b : at + 36 ≡ length (F ++ remote) = omega (arith, length-append F remote) in
       sets-then out (F ++ remote) local (at + 36) (sets-then out F remote at e₁ e₂ a) e₃ b
       ∙ ap (sets out 0) (append-assoc F remote local)
-      ∙ ap (λ (j : ℕ). sets out 0 (j ∷ (flat rs ++ (remote ++ local)))) ek
+      ∙ ap (λ (j : ℕ). sets out 0 (j ∷ (flatten rs ++ (remote ++ local)))) ek

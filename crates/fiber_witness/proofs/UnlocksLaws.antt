@@ -6,13 +6,13 @@ use native.Mathlib.Nat.{add-zero, le-refl}
 use native.Mathlib.Omega.{arith}
 use mathlib.Core.Path.{_≡_, refl, sym, ap, _∙_}
 use mathlib.Core.Bool.{cond}
-use mathlib.Core.List.{List, [], _∷_, _++_, append-nil}
+use mathlib.Core.List.{List, [], _∷_, _++_, append-nil, flatten}
 use lib.ListN.{length, getD, take, drop, length-append, length-drop, drop-of-length-le}
 use lib.Seq.{length-take-le, getD-drop, getD-take, drop-drop, take-all}
 use lib.Dec.{leb, eqb}
 use borrow.Author.Tests.{ne-eqb, le-leb, leb-true, leb-false}
 use Rattle.fiber_bytes.proofs.CaseLaws.{by-test}
-use Rattle.fiber_witness.specs.Witness.{unlockLen, flat, places, unlessCut}
+use Rattle.fiber_witness.specs.Witness.{unlockLen, places, unlessCut}
 use Rattle.fiber_witness.specs.Unlocks.{unlockSize, Unlocks, unlocksWithin, unlocksIn}
 use Rattle.fiber_witness.proofs.WitnessLaws.{unlock-long, places-nil, places-cons, cut-none, cut-passed, cut-short}
 
@@ -71,14 +71,14 @@ cutAt at [] = []
 cutAt at (b ∷ bs) = at ∷ []
 
 -- one unlock further
-further : (at : ℕ) (u : List ℕ) (us : List (List ℕ)) → at + length u + length (flat us) ≡ at + length (flat (u ∷ us))
-unfolding flat
-further at u us = omega (arith, length-append u (flat us))
+further : (at : ℕ) (u : List ℕ) (us : List (List ℕ)) → at + length u + length (flatten us) ≡ at + length (flatten (u ∷ us))
+unfolding flatten
+further at u us = omega (arith, length-append u (flatten us))
 
 -- The update's places are those where the whole unlocks begin, and that of the rest, if there is one.
 reads-places : {w : List ℕ} {at : ℕ} {us : List (List ℕ)} {rest : List ℕ} → Reads w at us rest
-    → places w at ≡ beginnings at us ++ cutAt (at + length (flat us)) rest
-unfolding beginnings flat
+    → places w at ≡ beginnings at us ++ cutAt (at + length (flatten us)) rest
+unfolding beginnings flatten
 reads-places {w} {at} (reads-rest {rest = []} e f) = places-nil w at (omega arith)
 reads-places {w} {at} (reads-rest {rest = b ∷ bs} e f) =
     places-cons w at (omega arith) ∙ ap (λ (ps : List ℕ). at ∷ ps) (places-nil w (at + unlockLen w at) (omega arith)) ∙ ap (λ (i : ℕ). i ∷ []) (sym (add-zero at))
@@ -90,8 +90,8 @@ reads-places {w} {at} (reads-more {u = u} {us = us} {rest = rest} k room byte r)
 
 -- The update's reading is cut short exactly where there is a rest, and at its first byte.
 reads-cut : {A : Type 0} {w : List ℕ} {at : ℕ} {us : List (List ℕ)} {rest : List ℕ} → Reads w at us rest → (cut : ℕ → A) (whole : A)
-    → unlessCut w (places w at) cut whole ≡ cond (eqb (length rest) 0) whole (cut (at + length (flat us)))
-unfolding flat
+    → unlessCut w (places w at) cut whole ≡ cond (eqb (length rest) 0) whole (cut (at + length (flatten us)))
+unfolding flatten
 reads-cut {w = w} {at = at} (reads-rest {rest = []} e f) cut whole = rw (places-nil w at (omega arith), cut-none)
 reads-cut {w = w} {at = at} (reads-rest {rest = b ∷ bs} e f) cut whole = rw (places-cons w at (omega arith), cut-short w cut whole at _ (omega arith), add-zero at, ne-eqb (length (b ∷ bs)) 0 (omega arith))
 reads-cut {w = w} {at = at} (reads-more {u = u} {us = us} {rest = rest} k room byte r) cut whole =
@@ -107,12 +107,12 @@ module _ (w : List ℕ) (at : ℕ) (s : List ℕ) (e : drop at w ≡ s) where
 
   -- the update turns down what is no whole unlock, at its first byte
   pub unlocks-cut : {A : Type 0} (cut : ℕ → A) (whole : A)
-      → unlessCut w (places w at) cut whole ≡ cond (eqb (length (unlocksIn s .rest)) 0) whole (cut (at + length (flat (unlocksIn s .whole))))
+      → unlessCut w (places w at) cut whole ≡ cond (eqb (length (unlocksIn s .rest)) 0) whole (cut (at + length (flatten (unlocksIn s .whole))))
   unlocks-cut cut whole = reads-cut unlocks-read cut whole
 
   -- else it finds the same unlocks
   pub unlocks-places : unlocksIn s .rest ≡ [] → places w at ≡ beginnings at (unlocksIn s .whole)
-  unlocks-places f = reads-places unlocks-read ∙ ap (λ (l : List ℕ). beginnings at (unlocksIn s .whole) ++ cutAt (at + length (flat (unlocksIn s .whole))) l) f ∙ append-nil _
+  unlocks-places f = reads-places unlocks-read ∙ ap (λ (l : List ℕ). beginnings at (unlocksIn s .whole) ++ cutAt (at + length (flatten (unlocksIn s .whole))) l) f ∙ append-nil _
 
 -- ---- one unlock alone
 

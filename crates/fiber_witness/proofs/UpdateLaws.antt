@@ -5,8 +5,8 @@ use native.Mathlib.Nat.{add-zero, zero-add, add-sub-cancel-left, le-of-suc-le-su
 use native.Mathlib.Numerals.{add-one}
 use native.Mathlib.Omega.{arith}
 use mathlib.Core.Path.{_≡_, refl, sym, ap, subst, _∙_}
-use mathlib.Core.Bool.{Bool, true, false, cond}
-use mathlib.Core.List.{List, [], _∷_, _++_, append-nil}
+use mathlib.Core.Bool.{Bool, true, false, cond, _||_}
+use mathlib.Core.List.{List, [], _∷_, _++_, append-nil, flatten}
 use lib.Dec.{eqb, ltb}
 use lib.ListN.{length, getD, take, drop, set, replicate, drop-of-length-le, length-set, length-take, length-drop}
 use lib.Seq.{sets, drop-cons, take-all, getD-set-same, getD-set-other}
@@ -22,12 +22,12 @@ use Rattle.fiber_witness.specs.declared.witness.WitnessRead.{WitnessRead
 use Rattle.fiber_witness.specs.declared.witness.WitnessRead.the-variants as read·
 use Rattle.fiber_witness.specs.declared.unlocks.UnlocksAnswer.{UnlocksAnswer}
 use Rattle.fiber_witness.specs.declared.unlocks.UnlocksAnswer.the-variants as unlocks·
-use Rattle.fiber_witness.specs.Witness.{recordLen, unlockLen, records, flat, member, places, readWitness}
+use Rattle.fiber_witness.specs.Witness.{recordLen, unlockLen, chunks, member, places, readWitness}
 use Rattle.fiber_witness.specs.Update.{Taken, none, Unlocked, fine, faulty, takeUnlocks, keep, shareLeft, standing, stateLeft, byRead, unlocked, written, updated}
-use Rattle.fiber_witness.specs.inner.Strided.{sharePlace}
+use Rattle.fiber_witness.specs.inner.Strided.{behindTlcs}
 use Rattle.fiber_witness.specs.inner.Marks.{Marks, markedFrom, marked, noMarks, TakesAs}
 use Rattle.fiber_witness.proofs.WitnessLaws as witness·
-use Rattle.fiber_witness.proofs.WitnessLaws.{FineRead, places-nil, places-cons, read-fine, Even, even-none, even-more, flat-even, records-length, even-records, state-size}
+use Rattle.fiber_witness.proofs.WitnessLaws.{FineRead, places-nil, places-cons, read-fine, Even, even-none, even-more, flatten-even, records-length, even-records, state-size}
 
 -- ---- marks
 
@@ -80,7 +80,7 @@ pub marks-set : (marks : List Bool) (s : List ℕ) (b : ℕ) → b < length mark
 unfolding Marks member
 marks-set marks s b h m i = go (eqb i b) refl
   where
-    go : (t : Bool) → eqb i b ≡ t → getD (set marks b true) i false ≡ cond t true (member i s)
+    go : (t : Bool) → eqb i b ≡ t → getD (set marks b true) i false ≡ (t || member i s)
     go true e = rw (eqb-true i b e) (getD-set-same marks b true false h)
     go false e = getD-set-other marks b i true false (eqb-false i b e) ∙ m i
 
@@ -133,77 +133,77 @@ even-keep {k} settled i (even-more {r = r} {rs = rs} e t) =
 
 -- kept records are as long as they are many
 pub keep-length : (s m : ℕ) (l settled : List ℕ) (i : ℕ) → m * s ≤ length l
-    → length (flat (keep settled i (records s m l))) ≡ length (keep settled i (records s m l)) * s
-keep-length s m l settled i h = flat-even (even-keep settled i (even-records s m l h))
+    → length (flatten (keep settled i (chunks s m l))) ≡ length (keep settled i (chunks s m l)) * s
+keep-length s m l settled i h = flatten-even (even-keep settled i (even-records s m l h))
 
 module _ (h : ℕ) (w : List ℕ) (n : ℕ) (settled : List ℕ) where
   -- no more than n stand
   pub standing-few : length (standing h w n settled) ≤ n
   unfolding standing
-  standing-few = omega (arith, keep-few settled (records (recordLen h) n (drop 2 w)) 0, records-length (recordLen h) n (drop 2 w))
+  standing-few = omega (arith, keep-few settled (chunks (recordLen h) n (drop 2 w)) 0, records-length (recordLen h) n (drop 2 w))
 
   -- where all n are whole
-  pub standing-length : sharePlace h n ≤ length w → length (flat (standing h w n settled)) ≡ length (standing h w n settled) * recordLen h
+  pub standing-length : behindTlcs h n ≤ length w → length (flatten (standing h w n settled)) ≡ length (standing h w n settled) * recordLen h
   unfolding standing
   standing-length g = keep-length (recordLen h) n (drop 2 w) settled 0 (simp length-drop (omega arith))
 
 -- ---- the unlocks, one by one
 
 -- without an unlock all is fine
-pub unlocks-none : (n share : ℕ) (w : List ℕ) (t : Taken) → takeUnlocks n share w t [] ≡ fine n share t
+pub unlocks-none : (n sharePlace : ℕ) (w : List ℕ) (t : Taken) → takeUnlocks n sharePlace w t [] ≡ fine n sharePlace t
 unfolding takeUnlocks
-unlocks-none n share w t = refl
+unlocks-none n sharePlace w t = refl
 
 -- with one, by its byte
-pub unlocks-more : (n share : ℕ) (w : List ℕ) (t : Taken) (p : ℕ) (ps : List ℕ)
-    → takeUnlocks n share w t (p ∷ ps)
-    ≡ cond (eqb (getD w p 0) 255) (takeUnlocks n share w (record { settled = t .settled; remote = t .remote; local = true }) ps)
-    (cond (eqb (getD w p 0) 254) (takeUnlocks n share w (record { settled = t .settled; remote = true; local = t .local }) ps)
+pub unlocks-more : (n sharePlace : ℕ) (w : List ℕ) (t : Taken) (p : ℕ) (ps : List ℕ)
+    → takeUnlocks n sharePlace w t (p ∷ ps)
+    ≡ cond (eqb (getD w p 0) 255) (takeUnlocks n sharePlace w (record { settled = t .settled; remote = t .remote; local = true }) ps)
+    (cond (eqb (getD w p 0) 254) (takeUnlocks n sharePlace w (record { settled = t .settled; remote = true; local = t .local }) ps)
     (cond (ltb (getD w p 0) n)
     (cond (member (getD w p 0) (t .settled)) (faulty 6 p)
-    (takeUnlocks n share w (record { settled = getD w p 0 ∷ t .settled; remote = t .remote; local = t .local }) ps))
+    (takeUnlocks n sharePlace w (record { settled = getD w p 0 ∷ t .settled; remote = t .remote; local = t .local }) ps))
     (faulty 5 p)))
 unfolding takeUnlocks
-unlocks-more n share w t p ps = refl
+unlocks-more n sharePlace w t p ps = refl
 
 -- unlocks are fine of the TLCs and the shares that they were taken of, or are turned down by a number that is not 0
-pub data Comes (n share : ℕ) : Unlocked → Type 0 where
-  comes-fine : (t : Taken) → Comes n share (fine n share t)
-  comes-faulty : (k p : ℕ) → (k ≡ 0 → ⊥) → Comes n share (faulty k p)
+pub data Comes (n sharePlace : ℕ) : Unlocked → Type 0 where
+  comes-fine : (t : Taken) → Comes n sharePlace (fine n sharePlace t)
+  comes-faulty : (k p : ℕ) → (k ≡ 0 → ⊥) → Comes n sharePlace (faulty k p)
 
-pub unlocks-come : (n share : ℕ) (w : List ℕ) (t : Taken) (ps : List ℕ) → Comes n share (takeUnlocks n share w t ps)
+pub unlocks-come : (n sharePlace : ℕ) (w : List ℕ) (t : Taken) (ps : List ℕ) → Comes n sharePlace (takeUnlocks n sharePlace w t ps)
 unfolding takeUnlocks
-unlocks-come n share w t [] = comes-fine t
-unlocks-come n share w t (p ∷ ps) =
-    by-test (Comes n share) (eqb (getD w p 0) 255) _ _
-    (λ _. unlocks-come n share w _ ps)
-    (λ _. by-test (Comes n share) (eqb (getD w p 0) 254) _ _
-    (λ _. unlocks-come n share w _ ps)
-    (λ _. by-test (Comes n share) (ltb (getD w p 0) n) _ _
-    (λ _. by-test (Comes n share) (member (getD w p 0) (t .settled)) _ _ (λ _. comes-faulty 6 p (omega arith)) (λ _. unlocks-come n share w _ ps))
+unlocks-come n sharePlace w t [] = comes-fine t
+unlocks-come n sharePlace w t (p ∷ ps) =
+    by-test (Comes n sharePlace) (eqb (getD w p 0) 255) _ _
+    (λ _. unlocks-come n sharePlace w _ ps)
+    (λ _. by-test (Comes n sharePlace) (eqb (getD w p 0) 254) _ _
+    (λ _. unlocks-come n sharePlace w _ ps)
+    (λ _. by-test (Comes n sharePlace) (ltb (getD w p 0) n) _ _
+    (λ _. by-test (Comes n sharePlace) (member (getD w p 0) (t .settled)) _ _ (λ _. comes-faulty 6 p (omega arith)) (λ _. unlocks-come n sharePlace w _ ps))
     (λ _. comes-faulty 5 p (omega arith))))
 
 -- all are fine, and take this
 abbrev pub Ends : Unlocked → Taken → Type 0
-Ends (fine n share t) u = t ≡ u
+Ends (fine n sharePlace t) u = t ≡ u
 Ends (faulty k p) u = ⊥
 
 -- unlocks that are all fine, with marks and shares that say what they took
-pub record All (n share : ℕ) (marks : List Bool) (remote local : Bool) (x : Unlocked) : Type 0 where
+pub record All (n sharePlace : ℕ) (marks : List Bool) (remote local : Bool) (x : Unlocked) : Type 0 where
   pub taken : Taken
-  pub is : x ≡ fine n share taken
+  pub is : x ≡ fine n sharePlace taken
   pub says : Marks marks (taken .settled)
   pub remote-is : remote ≡ taken .remote
   pub local-is : local ≡ taken .local
 
 -- what `take_unlocks` answers tells which it is
-module _ {n share : ℕ} (v : UnlocksAnswer) (marks : List Bool) (remote local : Bool) where
-  pub takes-all : {x : Unlocked} → Comes n share x → TakesAs x v marks remote local → v ≡ unlocks·.Fine → All n share marks remote local x
+module _ {n sharePlace : ℕ} (v : UnlocksAnswer) (marks : List Bool) (remote local : Bool) where
+  pub takes-all : {x : Unlocked} → Comes n sharePlace x → TakesAs x v marks remote local → v ≡ unlocks·.Fine → All n sharePlace marks remote local x
   unfolding TakesAs
   takes-all (comes-fine t) j e = record { taken = t; is = refl; says = j .1 .0; remote-is = j .1 .1 .0; local-is = j .1 .1 .1 }
   takes-all (comes-faulty k p z) j e = let o : _≡_ {A = ℕ} 0 1 = cc in absurd (omega arith)
 
-  pub takes-faulty : {x : Unlocked} → Comes n share x → TakesAs x v marks remote local → (k p : ℕ) → v ≡ unlocks·.Refused k p → x ≡ faulty k p
+  pub takes-faulty : {x : Unlocked} → Comes n sharePlace x → TakesAs x v marks remote local → (k p : ℕ) → v ≡ unlocks·.Refused k p → x ≡ faulty k p
   unfolding TakesAs
   takes-faulty (comes-fine t) j k p e = let f = j .0 in let o : _≡_ {A = ℕ} 0 1 = cc in absurd (omega arith)
   takes-faulty (comes-faulty l q z) j k p e = cc
@@ -213,55 +213,55 @@ pub record Taking (n : ℕ) (w : List ℕ) (first : ℕ) (marks : List Bool) (re
   pub settled : List ℕ
   pub long : length marks ≡ 256
   pub says : Marks marks settled
-  pub rest : (share : ℕ) → takeUnlocks n share w (record { settled = settled; remote = remote; local = local }) (places w at) ≡ takeUnlocks n share w none (places w first)
+  pub rest : (sharePlace : ℕ) → takeUnlocks n sharePlace w (record { settled = settled; remote = remote; local = local }) (places w at) ≡ takeUnlocks n sharePlace w none (places w first)
 
 -- before the first, nothing is taken
 pub taking-start : (n : ℕ) (w : List ℕ) (first : ℕ) → Taking n w first noMarks false false first
 unfolding noMarks
-taking-start n w first = record { settled = []; long = refl; says = marks-none; rest = λ share. refl }
+taking-start n w first = record { settled = []; long = refl; says = marks-none; rest = λ sharePlace. refl }
 
 module _ (n : ℕ) (w : List ℕ) (first : ℕ) (marks : List Bool) (remote local : Bool) (at : ℕ) (c : Taking n w first marks remote local at) where
   abbrev all : ℕ → Unlocked
-  all share = takeUnlocks n share w none (places w first)
+  all sharePlace = takeUnlocks n sharePlace w none (places w first)
 
   -- at the end every unlock is taken
-  pub taking-end : length w ≤ at → (share : ℕ) → TakesAs (all share) unlocks·.Fine marks remote local
+  pub taking-end : length w ≤ at → (sharePlace : ℕ) → TakesAs (all sharePlace) unlocks·.Fine marks remote local
   unfolding takeUnlocks TakesAs
-  taking-end h share =
-      subst (λ (x : Unlocked). TakesAs x unlocks·.Fine marks remote local) (rw (places-nil w at h) at (c .rest share)) (refl, (c .says, (refl, refl)))
+  taking-end h sharePlace =
+      subst (λ (x : Unlocked). TakesAs x unlocks·.Fine marks remote local) (rw (places-nil w at h) at (c .rest sharePlace)) (refl, (c .says, (refl, refl)))
 
   -- turned down by a row: whatever the marks and the shares
-  turned : (v : UnlocksAnswer) (k p share : ℕ) → v ≡ unlocks·.Refused k p → faulty k p ≡ all share → (m : List Bool) (r l : Bool) → TakesAs (all share) v m r l
+  turned : (v : UnlocksAnswer) (k p sharePlace : ℕ) → v ≡ unlocks·.Refused k p → faulty k p ≡ all sharePlace → (m : List Bool) (r l : Bool) → TakesAs (all sharePlace) v m r l
   unfolding TakesAs
-  turned v k p share e f m r l = subst (λ (x : Unlocked). TakesAs x v m r l) f e
+  turned v k p sharePlace e f m r l = subst (λ (x : Unlocked). TakesAs x v m r l) f e
 
   module _ (h : at < length w) where
     -- 0xFF
     pub taking-local : getD w at 0 ≡ 255 → Taking n w first marks remote true (at + unlockLen w at)
     unfolding takeUnlocks
-    taking-local a = record { settled = c .settled; long = c .long; says = c .says; rest = λ share. rw (places-cons w at h, a) at (c .rest share) }
+    taking-local a = record { settled = c .settled; long = c .long; says = c .says; rest = λ sharePlace. rw (places-cons w at h, a) at (c .rest sharePlace) }
 
     module _ (a : getD w at 0 ≡ 255 → ⊥) where
       -- 0xFE
       pub taking-remote : getD w at 0 ≡ 254 → Taking n w first marks true local (at + unlockLen w at)
       unfolding takeUnlocks
-      taking-remote b = record { settled = c .settled; long = c .long; says = c .says; rest = λ share. rw (places-cons w at h, b) at (c .rest share) }
+      taking-remote b = record { settled = c .settled; long = c .long; says = c .says; rest = λ sharePlace. rw (places-cons w at h, b) at (c .rest sharePlace) }
 
       module _ (b : getD w at 0 ≡ 254 → ⊥) where
         -- row 5
-        pub taking-beyond : n ≤ getD w at 0 → (v : UnlocksAnswer) → v ≡ unlocks·.Refused 5 at → (m : List Bool) (r l : Bool) (share : ℕ) → TakesAs (all share) v m r l
+        pub taking-beyond : n ≤ getD w at 0 → (v : UnlocksAnswer) → v ≡ unlocks·.Refused 5 at → (m : List Bool) (r l : Bool) (sharePlace : ℕ) → TakesAs (all sharePlace) v m r l
         unfolding takeUnlocks
-        taking-beyond f v e m r l share =
-            turned v 5 at share e
-            (rw (places-cons w at h, ne-eqb (getD w at 0) 255 a, ne-eqb (getD w at 0) 254 b, le-ltb (getD w at 0) n f) at (c .rest share)) m r l
+        taking-beyond f v e m r l sharePlace =
+            turned v 5 at sharePlace e
+            (rw (places-cons w at h, ne-eqb (getD w at 0) 255 a, ne-eqb (getD w at 0) 254 b, le-ltb (getD w at 0) n f) at (c .rest sharePlace)) m r l
 
         module _ (f : getD w at 0 < n) where
           -- row 6
-          pub taking-twice : getD marks (getD w at 0) false ≡ true → (v : UnlocksAnswer) → v ≡ unlocks·.Refused 6 at → (m : List Bool) (r l : Bool) (share : ℕ) → TakesAs (all share) v m r l
+          pub taking-twice : getD marks (getD w at 0) false ≡ true → (v : UnlocksAnswer) → v ≡ unlocks·.Refused 6 at → (m : List Bool) (r l : Bool) (sharePlace : ℕ) → TakesAs (all sharePlace) v m r l
           unfolding takeUnlocks Marks
-          taking-twice d v e m r l share =
-              turned v 6 at share e
-              (rw (places-cons w at h, ne-eqb (getD w at 0) 255 a, ne-eqb (getD w at 0) 254 b, lt-ltb (getD w at 0) n f, sym (c .says (getD w at 0)) ∙ d) at (c .rest share)) m r l
+          taking-twice d v e m r l sharePlace =
+              turned v 6 at sharePlace e
+              (rw (places-cons w at h, ne-eqb (getD w at 0) 255 a, ne-eqb (getD w at 0) 254 b, lt-ltb (getD w at 0) n f, sym (c .says (getD w at 0)) ∙ d) at (c .rest sharePlace)) m r l
 
           -- a TLC
           pub taking-tlc : getD w at 0 < 256 → getD marks (getD w at 0) false ≡ false → Taking n w first (set marks (getD w at 0) true) remote local (at + unlockLen w at)
@@ -270,7 +270,7 @@ module _ (n : ℕ) (w : List ℕ) (first : ℕ) (marks : List Bool) (remote loca
             settled = getD w at 0 ∷ c .settled;
             long = length-set marks (getD w at 0) true ∙ c .long;
             says = marks-set marks (c .settled) (getD w at 0) (omega (arith, c .long)) (c .says);
-            rest = λ share. rw (places-cons w at h, ne-eqb (getD w at 0) 255 a, ne-eqb (getD w at 0) 254 b, lt-ltb (getD w at 0) n f, sym (c .says (getD w at 0)) ∙ d) at (c .rest share);
+            rest = λ sharePlace. rw (places-cons w at h, ne-eqb (getD w at 0) 255 a, ne-eqb (getD w at 0) 254 b, lt-ltb (getD w at 0) n f, sym (c .says (getD w at 0)) ∙ d) at (c .rest sharePlace);
           }
 
 -- ---- counting the records that stand
@@ -363,14 +363,14 @@ unfolding shareLeft
 left-length true s e = refl
 left-length false s e = e
 
-module _ (h : ℕ) (w : List ℕ) (n share : ℕ) (t : Taken) (g : share + 72 ≤ length w) where
+module _ (h : ℕ) (w : List ℕ) (n sharePlace : ℕ) (t : Taken) (g : sharePlace + 72 ≤ length w) where
   -- the count, the records that stand, and two shares
-  pub state-length : length (stateLeft h w n share t) ≡ 73 + length (flat (standing h w n (t .settled)))
+  pub state-length : length (stateLeft h w n sharePlace t) ≡ 73 + length (flatten (standing h w n (t .settled)))
   unfolding stateLeft
   state-length =
       state-size _ _ _
-      (left-length (t .remote) (part w share 36) (part-length w share 36 (omega arith)))
-      (left-length (t .local) (part w (share + 36) 36) (part-length w (share + 36) 36 (omega arith)))
+      (left-length (t .remote) (part w sharePlace 36) (part-length w sharePlace 36 (omega arith)))
+      (left-length (t .local) (part w (sharePlace + 36) 36) (part-length w (sharePlace + 36) 36 (omega arith)))
 
 -- ---- what follows the reading
 
@@ -379,50 +379,50 @@ module _ (h : ℕ) (w : List ℕ) (n : ℕ) (settled : List ℕ) (k : ℕ) (f : 
   -- k stand
   pub counted : k ≡ length (standing h w n settled)
   unfolding standing
-  counted = f (records (recordLen h) n (drop 2 w)) (records-length (recordLen h) n (drop 2 w))
+  counted = f (chunks (recordLen h) n (drop 2 w)) (records-length (recordLen h) n (drop 2 w))
 
   -- their bytes are no more than those of all n
   pub counted-room : k * recordLen h ≤ n * recordLen h
   counted-room = mul-le-mul-right (recordLen h) (omega (arith, counted, standing-few h w n settled))
 
   -- they have so many bytes
-  pub counted-flat : sharePlace h n ≤ length w → length (flat (standing h w n settled)) ≡ k * recordLen h
+  pub counted-flat : behindTlcs h n ≤ length w → length (flatten (standing h w n settled)) ≡ k * recordLen h
   counted-flat g = standing-length h w n settled g ∙ ap (λ (j : ℕ). j * recordLen h) (sym counted)
 
   -- and so the state left has so many bytes
-  pub counted-size : (remote local : Bool) → sharePlace h n + 72 ≤ length w
-      → length (stateLeft h w n (sharePlace h n) (record { settled = settled; remote = remote; local = local })) ≡ 73 + k * recordLen h
+  pub counted-size : (remote local : Bool) → behindTlcs h n + 72 ≤ length w
+      → length (stateLeft h w n (behindTlcs h n) (record { settled = settled; remote = remote; local = local })) ≡ 73 + k * recordLen h
   counted-size remote local g =
-      omega (arith, state-length h w n (sharePlace h n) (record { settled = settled; remote = remote; local = local }) g, counted-flat (omega arith))
+      omega (arith, state-length h w n (behindTlcs h n) (record { settled = settled; remote = remote; local = local }) g, counted-flat (omega arith))
 
 -- with the answer of `take_unlocks`
-module _ (h : ℕ) (w out : List ℕ) (n share first : ℕ) (v : UnlocksAnswer) (marks : List Bool) (remote local : Bool)
-    (j : TakesAs (takeUnlocks n share w none (places w first)) v marks remote local) where
+module _ (h : ℕ) (w out : List ℕ) (n sharePlace first : ℕ) (v : UnlocksAnswer) (marks : List Bool) (remote local : Bool)
+    (j : TakesAs (takeUnlocks n sharePlace w none (places w first)) v marks remote local) where
   abbrev ended : Outcome Written
-  ended = written h w out (takeUnlocks n share w none (places w first))
+  ended = written h w out (takeUnlocks n sharePlace w none (places w first))
 
   -- row 5 or 6, and nothing is written
   pub settled-refused : (k p : ℕ) → v ≡ unlocks·.Refused k p → (written·.Refused k p ≡ ended .answer) × (out ≡ ended .bytes)
   unfolding written
-  settled-refused k p e = let f = takes-faulty v marks remote local (unlocks-come n share w none (places w first)) j k p e in (rw f, rw f)
+  settled-refused k p e = let f = takes-faulty v marks remote local (unlocks-come n sharePlace w none (places w first)) j k p e in (rw f, rw f)
 
   module _ (e : v ≡ unlocks·.Fine) where
     -- the state by the marks is the state by the list; where every unlock is taken, it is written
-    settled-fine : ended ≡ outcome true (stateLeft h w n share (record { settled = marked marks; remote = remote; local = local })) out
+    settled-fine : ended ≡ outcome true (stateLeft h w n sharePlace (record { settled = marked marks; remote = remote; local = local })) out
     unfolding written stateLeft standing
-    settled-fine = go (takes-all v marks remote local (unlocks-come n share w none (places w first)) j e)
+    settled-fine = go (takes-all v marks remote local (unlocks-come n sharePlace w none (places w first)) j e)
       where
-        go : All n share marks remote local (takeUnlocks n share w none (places w first))
-            → ended ≡ outcome true (stateLeft h w n share (record { settled = marked marks; remote = remote; local = local })) out
-        go t = rw (t .is, keep-marked marks (t .taken .settled) (t .says) 0 (records (recordLen h) n (drop 2 w)), t .remote-is, t .local-is)
+        go : All n sharePlace marks remote local (takeUnlocks n sharePlace w none (places w first))
+            → ended ≡ outcome true (stateLeft h w n sharePlace (record { settled = marked marks; remote = remote; local = local })) out
+        go t = rw (t .is, keep-marked marks (t .taken .settled) (t .says) 0 (chunks (recordLen h) n (drop 2 w)), t .remote-is, t .local-is)
 
-    module _ (size : ℕ) (l : length (stateLeft h w n share (record { settled = marked marks; remote = remote; local = local })) ≡ size) where
+    module _ (size : ℕ) (l : length (stateLeft h w n sharePlace (record { settled = marked marks; remote = remote; local = local })) ≡ size) where
       -- row 13, and nothing is written
       pub settled-short : length out < size → (written·.Refused 13 size ≡ ended .answer) × (out ≡ ended .bytes)
       settled-short f = rw settled-fine (outcome-short true _ out refl size l f)
 
       -- all is written
-      pub settled-written : size ≤ length out → (out′ : List ℕ) → out′ ≡ sets out 0 (stateLeft h w n share (record { settled = marked marks; remote = remote; local = local }))
+      pub settled-written : size ≤ length out → (out′ : List ℕ) → out′ ≡ sets out 0 (stateLeft h w n sharePlace (record { settled = marked marks; remote = remote; local = local }))
           → (written·.Bytes size ≡ ended .answer) × (out′ ≡ ended .bytes)
       settled-written f out′ d = rw settled-fine (outcome-whole true _ out refl size l f out′ d)
 
@@ -434,21 +434,21 @@ module _ (h : ℕ) (w out : List ℕ) where
   unfolding updated unlocked byRead written
   updated-refused k p e = (rw e, rw e)
 
-  module _ (n k share first : ℕ) (e : readWitness h w ≡ read·.Whole n k share first) where
+  module _ (n k sharePlace first : ℕ) (e : readWitness h w ≡ read·.Whole n k sharePlace first) where
     -- a witness that is read whole
-    updated-read : updated h w out ≡ written h w out (takeUnlocks n share w none (places w first))
+    updated-read : updated h w out ≡ written h w out (takeUnlocks n sharePlace w none (places w first))
     unfolding updated unlocked byRead
     updated-read = rw e
 
-    pub updated-whole : updated h w out ≡ written h w out (takeUnlocks n (sharePlace h n) w none (places w first))
-    updated-whole = rw (updated-read, ← read-fine h w n k share first e .tlcs)
+    pub updated-whole : updated h w out ≡ written h w out (takeUnlocks n (behindTlcs h n) w none (places w first))
+    updated-whole = rw (updated-read, ← read-fine h w n k sharePlace first e .tlcs)
 
     -- and its unlocks: turned down, or the state left is written
-    pub updated-turned : (r p : ℕ) → takeUnlocks n share w none (places w first) ≡ faulty r p → (written·.Refused r p ≡ updated h w out .answer) × (out ≡ updated h w out .bytes)
+    pub updated-turned : (r p : ℕ) → takeUnlocks n sharePlace w none (places w first) ≡ faulty r p → (written·.Refused r p ≡ updated h w out .answer) × (out ≡ updated h w out .bytes)
     unfolding written
     updated-turned r p f = rw (updated-read, f) (refl, refl)
 
-    pub updated-fine : (t : Taken) → takeUnlocks n share w none (places w first) ≡ fine n share t → updated h w out ≡ outcome true (stateLeft h w n share t) out
+    pub updated-fine : (t : Taken) → takeUnlocks n sharePlace w none (places w first) ≡ fine n sharePlace t → updated h w out ≡ outcome true (stateLeft h w n sharePlace t) out
     unfolding written
     updated-fine t f = rw (updated-read, f)
 
@@ -456,7 +456,7 @@ module _ (h : ℕ) (w out : List ℕ) where
 
 -- of unlocks that are turned down nothing is said
 abbrev pub Takes : ℕ → List ℕ → Unlocked → Type 0
-Takes h w (fine n share t) = share + 72 ≤ length w
+Takes h w (fine n sharePlace t) = sharePlace + 72 ≤ length w
 Takes h w (faulty number place) = Unit {0}
 
 -- where all are taken, the witness has both shares
@@ -464,10 +464,10 @@ pub unlocked-shares : (h : ℕ) (w : List ℕ) → Takes h w (unlocked h w)
 unfolding unlocked byRead
 unlocked-shares h w = go (readWitness h w) (witness·.fine h w)
   where
-    took : {n share : ℕ} → share + 72 ≤ length w → {x : Unlocked} → Comes n share x → Takes h w x
+    took : {n sharePlace : ℕ} → sharePlace + 72 ≤ length w → {x : Unlocked} → Comes n sharePlace x → Takes h w x
     took g (comes-fine t) = g
     took g (comes-faulty number place z) = tt
 
     go : (r : WitnessRead) → FineRead h w r → Takes h w (byRead w r)
-    go (read·.Whole n k share start) f = took (f .shares) (unlocks-come n share w none (places w start))
+    go (read·.Whole n k sharePlace start) f = took (f .shares) (unlocks-come n sharePlace w none (places w start))
     go (read·.Refused number place) f = tt

@@ -4,8 +4,8 @@ use Prim.Native.Nat.{ℕ, zero, suc, _+_, _-_, _*_, _/_, _≤_, _<_}
 use native.Mathlib.Nat.{add-zero, zero-add, zero-mul, suc-mul, mul-le-mul, mul-le-mul-right, div-mul-le-self, lt-div-mul-add}
 use native.Mathlib.Omega.{arith}
 use mathlib.Core.Path.{_≡_, refl, sym, ap, subst, _∙_}
-use mathlib.Core.Bool.{true, false, cond}
-use mathlib.Core.List.{List, [], _∷_, _++_, append-assoc}
+use mathlib.Core.Bool.{true, false, cond, _||_}
+use mathlib.Core.List.{List, [], _∷_, _++_, append-assoc, flatten}
 use mathlib.Core.Logic.{⊎-elim}
 use lib.Dec.{ltb, leb, eqb}
 use lib.ListN.{length, getD, take, drop, length-append, length-drop, take-append-drop}
@@ -20,12 +20,8 @@ use Rattle.fiber_types.proofs.RecordsLaws.{hash-len-small, at-least}
 use Rattle.fiber_types.proofs.RoundTrips.{unlock-read, unlock-refused}
 use Rattle.fiber_witness.specs.declared.witness.WitnessRead.{WitnessRead}
 use Rattle.fiber_witness.specs.declared.witness.WitnessRead.the-variants.{Whole, Refused}
-use Rattle.fiber_witness.specs.Witness.{recordLen, unlockLen, records, flat, stateBytes, member, placesWithin, places, unlessCut, readUnlocks, readShares, readTlcs, readWitness}
-use Rattle.fiber_witness.specs.inner.Strided.{sharePlace}
-
--- what is left of a count k of m, one step on
-pub left : (m k : ℕ) → k < m → m - k ≡ suc (m - (k + 1))
-left m k h = omega arith
+use Rattle.fiber_witness.specs.Witness.{recordLen, unlockLen, chunks, stateBytes, member, placesWithin, places, unlessCut, readUnlocks, readShares, readTlcs, readWitness}
+use Rattle.fiber_witness.specs.inner.Strided.{behindTlcs}
 
 -- ---- the places of the unlocks
 
@@ -70,7 +66,7 @@ unfolding member
 member-none i = refl
 
 -- it is the first place, or among the others
-pub member-more : (i p : ℕ) (ps : List ℕ) → member i (p ∷ ps) ≡ cond (eqb i p) true (member i ps)
+pub member-more : (i p : ℕ) (ps : List ℕ) → member i (p ∷ ps) ≡ (eqb i p || member i ps)
 unfolding member
 member-more i p ps = refl
 
@@ -100,7 +96,7 @@ by-cut P w (p ∷ ps) c c′ x x′ f g =
     by-test₂ P (leb (p + unlockLen w p) (length w)) _ _ _ _ (λ _. r) (λ _. f p)
 
 -- an unlock that is read has the length that the reader says, and ends within the witness
-pub unlock-whole : (w : List ℕ) (at : ℕ) (u : Unlock) (len : ℕ) → readUnlock w at ≡ unlock·.Record u → len ≡ witnessLen (u .flag)
+pub unlock-whole : (w : List ℕ) (at : ℕ) (u : Unlock) (len : ℕ) → readUnlock w at ≡ unlock·.Whole u → len ≡ witnessLen (u .flag)
     → (len ≡ unlockLen w at) × (at + unlockLen w at ≤ length w)
 unlock-whole w at u len e g =
     let r = unlock-read w at u e in
@@ -108,29 +104,29 @@ unlock-whole w at u len e g =
     (f, omega (arith, r .0))
 
 -- The loop over the unlocks, k before place at: what it finds from here is what the whole finds.
-pub record Reading (w : List ℕ) (n share at k : ℕ) : Type 0 where
+pub record Reading (w : List ℕ) (n sharePlace at k : ℕ) : Type 0 where
   pub few : k ≤ at
   pub room : at ≤ length w
-  pub rest : unlessCut w (places w at) (Refused 4) (Whole n (k + length (places w at)) share (share + 72)) ≡ readUnlocks w n share
+  pub rest : unlessCut w (places w at) (Refused 4) (Whole n (k + length (places w at)) sharePlace (sharePlace + 72)) ≡ readUnlocks w n sharePlace
 
 -- before the first, all of them are left
-pub reading-start : (w : List ℕ) (n share : ℕ) → share + 72 ≤ length w → Reading w n share (share + 72) 0
+pub reading-start : (w : List ℕ) (n sharePlace : ℕ) → sharePlace + 72 ≤ length w → Reading w n sharePlace (sharePlace + 72) 0
 unfolding readUnlocks
-reading-start w n share h = record { few = omega arith; room = h; rest = rw zero-add }
+reading-start w n sharePlace h = record { few = omega arith; room = h; rest = rw zero-add }
 
-module _ (w : List ℕ) (n share at k : ℕ) (c : Reading w n share at k) where
+module _ (w : List ℕ) (n sharePlace at k : ℕ) (c : Reading w n sharePlace at k) where
   -- at the end none is left
-  pub reading-end : length w ≤ at → Whole n k share (share + 72) ≡ readUnlocks w n share
+  pub reading-end : length w ≤ at → Whole n k sharePlace (sharePlace + 72) ≡ readUnlocks w n sharePlace
   reading-end h = rw (places-nil w at h, cut-none, add-zero) at (c .rest)
 
   module _ (h : at < length w) where
-    module _ (u : Unlock) (len : ℕ) (e : readUnlock w at ≡ unlock·.Record u) (g : len ≡ witnessLen (u .flag)) where
+    module _ (u : Unlock) (len : ℕ) (e : readUnlock w at ≡ unlock·.Whole u) (g : len ≡ witnessLen (u .flag)) where
       -- what is left of the witness falls
       pub reading-less : length w - (at + len) < length w - at
       reading-less = omega (arith, at-least (u .flag))
 
       -- an unlock that is whole is passed
-      pub reading-more : Reading w n share (at + len) (k + 1)
+      pub reading-more : Reading w n sharePlace (at + len) (k + 1)
       reading-more =
           let r = unlock-whole w at u len e g in
           let m : k + suc (length (places w (at + unlockLen w at))) ≡ k + 1 + length (places w (at + unlockLen w at)) = omega arith in
@@ -141,7 +137,7 @@ module _ (w : List ℕ) (n share at k : ℕ) (c : Reading w n share at k) where
           }
 
     -- one that is not is what the whole finds
-    pub reading-cut : (number place : ℕ) → readUnlock w at ≡ unlock·.Refused number place → Refused number place ≡ readUnlocks w n share
+    pub reading-cut : (number place : ℕ) → readUnlock w at ≡ unlock·.Refused number place → Refused number place ≡ readUnlocks w n sharePlace
     reading-cut number place e =
         let r = unlock-refused w at number place e in
         rw (r .1 .0, r .1 .1) (rw (places-cons w at h, cut-short w (Refused 4) _ at (places w (at + unlockLen w at)) (r .0)) at (c .rest))
@@ -181,25 +177,25 @@ module _ (h : ℕ) (w : List ℕ) (n : ℕ) where
     whole-room = omega (arith, ap (λ (k : ℕ). k * recordLen h) e, div-mul-le-self (length w - 2) (recordLen h))
 
     -- the witness ends before the share part: they are fewer than n
-    whole-few : length w < sharePlace h n → q < n
+    whole-few : length w < behindTlcs h n → q < n
     whole-few f = ⊎-elim (λ g. absurd (omega (arith, whole-room, mul-le-mul-right (recordLen h) g))) (λ g. g) (either n q)
 
     -- and the one behind them is cut short
-    pub whole-cut : length w < sharePlace h n → Refused 2 (2 + q * recordLen h) ≡ readTlcs n h w n 2
+    pub whole-cut : length w < behindTlcs h n → Refused 2 (2 + q * recordLen h) ≡ readTlcs n h w n 2
     whole-cut f =
         let p : 0 < recordLen h = omega arith in
         tlcs-cut n 2 q (whole-few f) whole-room (omega (arith, ap (λ (k : ℕ). k * recordLen h) e, lt-div-mul-add {a = length w - 2} p))
 
-  module _ (f : sharePlace h n ≤ length w) where
+  module _ (f : behindTlcs h n ≤ length w) where
     -- the share part is cut short
-    pub shares-cut : length w < sharePlace h n + 72 → Refused 3 (sharePlace h n) ≡ readTlcs n h w n 2
+    pub shares-cut : length w < behindTlcs h n + 72 → Refused 3 (behindTlcs h n) ≡ readTlcs n h w n 2
     unfolding readShares
-    shares-cut g = rw (tlcs-whole n 2 f, lt-leb (sharePlace h n + 72) (length w) g)
+    shares-cut g = rw (tlcs-whole n 2 f, lt-leb (behindTlcs h n + 72) (length w) g)
 
     -- it is whole, and the unlocks follow
-    pub shares-whole : sharePlace h n + 72 ≤ length w → readUnlocks w n (sharePlace h n) ≡ readTlcs n h w n 2
+    pub shares-whole : behindTlcs h n + 72 ≤ length w → readUnlocks w n (behindTlcs h n) ≡ readTlcs n h w n 2
     unfolding readShares
-    shares-whole g = rw (tlcs-whole n 2 f, le-leb (sharePlace h n + 72) (length w) g)
+    shares-whole g = rw (tlcs-whole n 2 f, le-leb (behindTlcs h n + 72) (length w) g)
 
 -- ---- reading a witness
 
@@ -223,30 +219,30 @@ module _ (h : ℕ) (w : List ℕ) where
 -- ---- what a witness that is read whole has
 
 -- its hash length, its TLC count, and where its parts begin
-pub record Fine (h : ℕ) (w : List ℕ) (n share first : ℕ) : Type 0 where
+pub record Fine (h : ℕ) (w : List ℕ) (n sharePlace first : ℕ) : Type 0 where
   pub hash : validHashLen h ≡ true
   pub small : h ≤ 32
   pub count : n ≡ getD w 1 0
-  pub tlcs : share ≡ sharePlace h n
-  pub shares : share + 72 ≤ length w
-  pub unlocks : first ≡ share + 72
+  pub tlcs : sharePlace ≡ behindTlcs h n
+  pub shares : sharePlace + 72 ≤ length w
+  pub unlocks : first ≡ sharePlace + 72
 
 -- of a reading that turned the witness down, nothing is said
 abbrev pub FineRead : ℕ → List ℕ → WitnessRead → Type 0
-FineRead h w (Whole n k share first) = Fine h w n share first
+FineRead h w (Whole n k sharePlace first) = Fine h w n sharePlace first
 FineRead h w (Refused number place) = Unit {0}
 
 module _ (h : ℕ) (w : List ℕ) (n : ℕ) (s : validHashLen h ≡ true) (c : n ≡ getD w 1 0) where
-  fine-shares : (share : ℕ) → share ≡ sharePlace h n → FineRead h w (readShares w n share)
+  fine-shares : (sharePlace : ℕ) → sharePlace ≡ behindTlcs h n → FineRead h w (readShares w n sharePlace)
   unfolding readShares readUnlocks
-  fine-shares share e =
-      by-test (FineRead h w) (leb (share + 72) (length w)) _ _
-      (λ t. by-cut (λ r _. FineRead h w r) w (places w (share + 72)) (Refused 4) (λ p. p) _ 0
+  fine-shares sharePlace e =
+      by-test (FineRead h w) (leb (sharePlace + 72) (length w)) _ _
+      (λ t. by-cut (λ r _. FineRead h w r) w (places w (sharePlace + 72)) (Refused 4) (λ p. p) _ 0
       (λ p. tt)
       (record { hash = s; small = hash-len-small h s; count = c; tlcs = e; shares = leb-true _ _ t; unlocks = refl }))
       (λ _. tt)
 
-  fine-tlcs : (m at : ℕ) → at + m * recordLen h ≡ sharePlace h n → FineRead h w (readTlcs m h w n at)
+  fine-tlcs : (m at : ℕ) → at + m * recordLen h ≡ behindTlcs h n → FineRead h w (readTlcs m h w n at)
   unfolding readTlcs
   fine-tlcs zero at e = fine-shares at (omega (arith, e, zero-mul (recordLen h)))
   fine-tlcs (suc m) at e =
@@ -263,18 +259,18 @@ fine h w =
     (λ _. tt)
 
 -- the same, of a reading that is known to be whole
-pub read-fine : (h : ℕ) (w : List ℕ) (n k share first : ℕ) → readWitness h w ≡ Whole n k share first → Fine h w n share first
-read-fine h w n k share first e = subst (FineRead h w) e (fine h w)
+pub read-fine : (h : ℕ) (w : List ℕ) (n k sharePlace first : ℕ) → readWitness h w ≡ Whole n k sharePlace first → Fine h w n sharePlace first
+read-fine h w n k sharePlace first e = subst (FineRead h w) e (fine h w)
 
 -- ---- records
 
 -- none, and one more
-pub records-none : (size : ℕ) (l : List ℕ) → records size zero l ≡ []
-unfolding records
+pub records-none : (size : ℕ) (l : List ℕ) → chunks size zero l ≡ []
+unfolding chunks
 records-none size l = refl
 
-pub records-more : (size m : ℕ) (l : List ℕ) → records size (suc m) l ≡ take size l ∷ records size m (drop size l)
-unfolding records
+pub records-more : (size m : ℕ) (l : List ℕ) → chunks size (suc m) l ≡ take size l ∷ chunks size m (drop size l)
+unfolding chunks
 records-more size m l = refl
 
 -- records of k bytes each
@@ -289,43 +285,43 @@ even-at (even-more e t) zero g = e
 even-at (even-more e t) (suc i) g = even-at t i (omega arith)
 
 -- their bytes in all
-pub flat-even : {k : ℕ} {rs : List (List ℕ)} → Even k rs → length (flat rs) ≡ length rs * k
-unfolding flat
-flat-even {k} even-none = sym (zero-mul k)
-flat-even {k} (even-more {r = r} {rs = rs} e t) = omega (arith, flat-even t, e, length-append r (flat rs), suc-mul (length rs) k)
+pub flatten-even : {k : ℕ} {rs : List (List ℕ)} → Even k rs → length (flatten rs) ≡ length rs * k
+unfolding flatten
+flatten-even {k} even-none = sym (zero-mul k)
+flatten-even {k} (even-more {r = r} {rs = rs} e t) = omega (arith, flatten-even t, e, length-append r (flatten rs), suc-mul (length rs) k)
 
 -- one behind the other they are read back
-pub records-even : {k : ℕ} {rs : List (List ℕ)} → Even k rs → (t : List ℕ) → records k (length rs) (flat rs ++ t) ≡ rs
-unfolding flat records
+pub records-even : {k : ℕ} {rs : List (List ℕ)} → Even k rs → (t : List ℕ) → chunks k (length rs) (flatten rs ++ t) ≡ rs
+unfolding flatten chunks
 records-even even-none t = refl
 records-even {k} (even-more {r = r} {rs = rs} e x) t =
-    simp (append-assoc, take-at r (flat rs ++ t) k e, drop-at r (flat rs ++ t) k e, records-even x t)
+    simp (append-assoc, take-at r (flatten rs ++ t) k e, drop-at r (flatten rs ++ t) k e, records-even x t)
 
 -- m records are m
-pub records-length : (s m : ℕ) (l : List ℕ) → length (records s m l) ≡ m
-unfolding records
+pub records-length : (s m : ℕ) (l : List ℕ) → length (chunks s m l) ≡ m
+unfolding chunks
 records-length s zero l = refl
 records-length s (suc m) l = ap suc (records-length s m (drop s l))
 
 -- read from a list that has them, they have k bytes each
-pub even-records : (k m : ℕ) (l : List ℕ) → m * k ≤ length l → Even k (records k m l)
-unfolding records
+pub even-records : (k m : ℕ) (l : List ℕ) → m * k ≤ length l → Even k (chunks k m l)
+unfolding chunks
 even-records k zero l f = even-none
 even-records k (suc m) l f =
     even-more (part-length l 0 k (omega (arith, suc-mul m k))) (even-records k m (drop k l) (simp length-drop (omega (arith, suc-mul m k))))
 
 -- with what is behind them they are the list
-pub flat-records : (k m : ℕ) (l : List ℕ) → flat (records k m l) ++ drop (m * k) l ≡ l
-unfolding records flat
-flat-records k zero l = ap (λ (i : ℕ). drop i l) (zero-mul k)
-flat-records k (suc m) l =
+pub flatten-records : (k m : ℕ) (l : List ℕ) → flatten (chunks k m l) ++ drop (m * k) l ≡ l
+unfolding chunks flatten
+flatten-records k zero l = ap (λ (i : ℕ). drop i l) (zero-mul k)
+flatten-records k (suc m) l =
     let e : suc m * k ≡ k + m * k = omega (arith, suc-mul m k) in
-    append-assoc (take k l) (flat (records k m (drop k l))) (drop (suc m * k) l)
-    ∙ ap (λ (r : List ℕ). take k l ++ (flat (records k m (drop k l)) ++ r)) (ap (λ (i : ℕ). drop i l) e ∙ sym (drop-drop (m * k) k l))
-    ∙ ap (λ (r : List ℕ). take k l ++ r) (flat-records k m (drop k l))
+    append-assoc (take k l) (flatten (chunks k m (drop k l))) (drop (suc m * k) l)
+    ∙ ap (λ (r : List ℕ). take k l ++ (flatten (chunks k m (drop k l)) ++ r)) (ap (λ (i : ℕ). drop i l) e ∙ sym (drop-drop (m * k) k l))
+    ∙ ap (λ (r : List ℕ). take k l ++ r) (flatten-records k m (drop k l))
     ∙ take-append-drop k l
 
 -- a state has a count, its records and two shares
-pub state-size : (rs : List (List ℕ)) (remote local : List ℕ) → length remote ≡ 36 → length local ≡ 36 → length (stateBytes rs remote local) ≡ 73 + length (flat rs)
+pub state-size : (rs : List (List ℕ)) (remote local : List ℕ) → length remote ≡ 36 → length local ≡ 36 → length (stateBytes rs remote local) ≡ 73 + length (flatten rs)
 unfolding stateBytes
-state-size rs remote local e f = omega (arith, length-append (flat rs) (remote ++ local), length-append remote local)
+state-size rs remote local e f = omega (arith, length-append (flatten rs) (remote ++ local), length-append remote local)

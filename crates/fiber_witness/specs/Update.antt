@@ -10,7 +10,7 @@ use Rattle.fiber_types.specs.declared.answer.Written.the-variants as written·
 use Rattle.fiber_types.specs.Records.{Outcome, unwritten, outcome}
 use Rattle.fiber_witness.specs.declared.witness.WitnessRead.{WitnessRead}
 use Rattle.fiber_witness.specs.declared.witness.WitnessRead.the-variants as read·
-use Rattle.fiber_witness.specs.Witness.{recordLen, records, stateBytes, member, places, readWitness}
+use Rattle.fiber_witness.specs.Witness.{recordLen, chunks, stateBytes, member, places, readWitness}
 
 -- ---- the unlocks, in order
 
@@ -31,12 +31,12 @@ pub data Unlocked : Type 0 where
 -- Unlocks at the places of w, of n TLCs. 0xFF is the local share and 0xFE the remote one, repeats allowed. Another byte is the place of a
 -- TLC in the list before any removal: 5 where there is none, 6 where it is settled already.
 unfoldable pub takeUnlocks : ℕ → ℕ → List ℕ → Taken → List ℕ → Unlocked
-takeUnlocks n share w t [] = fine n share t
-takeUnlocks n share w t (p ∷ ps) =
+takeUnlocks n sharePlace w t [] = fine n sharePlace t
+takeUnlocks n sharePlace w t (p ∷ ps) =
     let byte = getD w p 0 in
-    let onLocal = takeUnlocks n share w (record { settled = t .settled; remote = t .remote; local = true }) ps in
-    let onRemote = takeUnlocks n share w (record { settled = t .settled; remote = true; local = t .local }) ps in
-    let onTlc = takeUnlocks n share w (record { settled = byte ∷ t .settled; remote = t .remote; local = t .local }) ps in
+    let onLocal = takeUnlocks n sharePlace w (record { settled = t .settled; remote = t .remote; local = true }) ps in
+    let onRemote = takeUnlocks n sharePlace w (record { settled = t .settled; remote = true; local = t .local }) ps in
+    let onTlc = takeUnlocks n sharePlace w (record { settled = byte ∷ t .settled; remote = t .remote; local = t .local }) ps in
     cond (eqb byte 255) onLocal
     (cond (eqb byte 254) onRemote
     (cond (ltb byte n) (cond (member byte (t .settled)) (faulty 6 p) onTlc) (faulty 5 p)))
@@ -52,20 +52,20 @@ keep settled i (r ∷ rs) =
 
 -- a share, 36 bytes: once unlocked its key hash and its amount are zeros
 unfoldable pub shareLeft : Bool → List ℕ → List ℕ
-shareLeft unlocked s = cond unlocked (replicate 36 0) s
+shareLeft isUnlocked s = cond isUnlocked (replicate 36 0) s
 
 -- the n TLCs of a witness that are not settled, in their order
 unfoldable pub standing : ℕ → List ℕ → ℕ → List ℕ → List (List ℕ)
-standing h w n settled = keep settled 0 (records (recordLen h) n (drop 2 w))
+standing h w n settled = keep settled 0 (chunks (recordLen h) n (drop 2 w))
 
 unfoldable pub stateLeft : ℕ → List ℕ → ℕ → ℕ → Taken → List ℕ
-stateLeft h w n share t =
-    stateBytes (standing h w n (t .settled)) (shareLeft (t .remote) (part w share 36)) (shareLeft (t .local) (part w (share + 36) 36))
+stateLeft h w n sharePlace t =
+    stateBytes (standing h w n (t .settled)) (shareLeft (t .remote) (part w sharePlace 36)) (shareLeft (t .local) (part w (sharePlace + 36) 36))
 
 -- ---- the update
 
 unfoldable pub byRead : List ℕ → WitnessRead → Unlocked
-byRead w (read·.Whole n k share first) = takeUnlocks n share w none (places w first)
+byRead w (read·.Whole n k sharePlace first) = takeUnlocks n sharePlace w none (places w first)
 byRead w (read·.Refused number place) = faulty number place
 
 -- read, then take the unlocks in order
@@ -74,7 +74,7 @@ unlocked h w = byRead w (readWitness h w)
 
 -- the state left goes to the front of the output: 13 at its length where it has no room
 unfoldable pub written : ℕ → List ℕ → List ℕ → Unlocked → Outcome Written
-written h w out (fine n share t) = outcome true (stateLeft h w n share t) out
+written h w out (fine n sharePlace t) = outcome true (stateLeft h w n sharePlace t) out
 written h w out (faulty number place) = unwritten (written·.Refused number place) out
 
 unfoldable pub updated : ℕ → List ℕ → List ℕ → Outcome Written

@@ -1,8 +1,8 @@
 -- What reading a settlement witness finds; document 01, "Witness", with rows 14 and 1 to 4 of its table.
 -- Unlock count 1 (never looked at), TLC count n 1, n TLCs, remote share, local share, unlocks to the end.
 use Prim.Native.Nat.{ℕ, zero, suc, _+_}
-use mathlib.Core.Bool.{Bool, true, false, cond}
-use mathlib.Core.List.{List, [], _∷_, _++_}
+use mathlib.Core.Bool.{Bool, false, cond, _||_}
+use mathlib.Core.List.{List, [], _∷_, _++_, flatten}
 use lib.ListN.{length, getD, take, drop}
 use lib.Dec.{ltb, leb, eqb}
 use Rattle.fiber_types.specs.Records.{validHashLen, witnessLen}
@@ -19,23 +19,19 @@ recordLen h = 65 + h
 abbrev pub unlockLen : List ℕ → ℕ → ℕ
 unlockLen w at = witnessLen (eqb (getD w (at + 1) 0) 1)
 
--- m records of size bytes each, one behind the other
-unfoldable pub records : ℕ → ℕ → List ℕ → List (List ℕ)
-records size zero l = []
-records size (suc m) l = take size l ∷ records size m (drop size l)
-
-unfoldable pub flat : List (List ℕ) → List ℕ
-flat [] = []
-flat (r ∷ rs) = r ++ flat rs
+-- m chunks of size bytes each, one behind the other
+unfoldable pub chunks : ℕ → ℕ → List ℕ → List (List ℕ)
+chunks size zero l = []
+chunks size (suc m) l = take size l ∷ chunks size m (drop size l)
 
 -- a state, as `to_witness` writes it: n, TLCs, remote share, local share
 unfoldable pub stateBytes : List (List ℕ) → List ℕ → List ℕ → List ℕ
-stateBytes tlcs remote local = length tlcs ∷ (flat tlcs ++ (remote ++ local))
+stateBytes tlcs remote local = length tlcs ∷ (flatten tlcs ++ (remote ++ local))
 
 -- whether a place is among places
 unfoldable pub member : ℕ → List ℕ → Bool
 member i [] = false
-member i (p ∷ ps) = cond (eqb i p) true (member i ps)
+member i (p ∷ ps) = eqb i p || member i ps
 
 -- ---- unlocks
 
@@ -60,13 +56,13 @@ unlessCut w (p ∷ ps) cut whole =
 
 -- the unlocks behind the shares: 4 at the first byte of one that is cut short
 unfoldable pub readUnlocks : List ℕ → ℕ → ℕ → WitnessRead
-readUnlocks w n share =
-    let ps = places w (share + 72) in
-    unlessCut w ps (Refused 4) (Whole n (length ps) share (share + 72))
+readUnlocks w n sharePlace =
+    let ps = places w (sharePlace + 72) in
+    unlessCut w ps (Refused 4) (Whole n (length ps) sharePlace (sharePlace + 72))
 
 -- the share part: 3 at its first byte where it is cut short
 unfoldable pub readShares : List ℕ → ℕ → ℕ → WitnessRead
-readShares w n share = cond (leb (share + 72) (length w)) (readUnlocks w n share) (Refused 3 share)
+readShares w n sharePlace = cond (leb (sharePlace + 72) (length w)) (readUnlocks w n sharePlace) (Refused 3 sharePlace)
 
 -- the last m of n TLCs, from a place on: 2 at the first byte of one that is cut short
 unfoldable pub readTlcs : ℕ → ℕ → List ℕ → ℕ → ℕ → WitnessRead

@@ -5,12 +5,12 @@ use crate::witness::SHARES;
 use fiber_bytes::put;
 use fiber_types::tlc::TLC_FIXED;
 ghost use mathlib.Core.Path.{_≡_};
-ghost use mathlib.Core.List.{[], _∷_};
+ghost use mathlib.Core.List.{[], _∷_, flatten};
 ghost use Prim.Native.Nat.{_+_, _*_, _≤_};
 ghost use lib.ListN.{length};
 ghost use lib.Seq.{sets};
 ghost use Rattle.fiber_bytes.specs.Bytes.{part};
-ghost use Rattle.fiber_witness.specs.Witness.{recordLen, flat, stateBytes};
+ghost use Rattle.fiber_witness.specs.Witness.{recordLen, stateBytes};
 ghost use Rattle.fiber_witness.specs.Update.{shareLeft};
 ghost use Rattle.fiber_witness.specs.inner.Marks.{Marks};
 ghost use Rattle.fiber_witness.specs.inner.Strided.{unmarked};
@@ -37,8 +37,9 @@ pub fn share_left(w: &[u8], from: usize, unlocked: bool) -> [u8; 36]
     share
 }
 
-// Writes a record to the front of out, the part of the output where it belongs.
-fn put_record(tlc: &[u8], out: &mut [u8])
+// The one writer of a record, into the part of an output where it belongs, which begins at byte 1 + k(65 + h) of a state. For the
+// update, for what a choice hands out, and for first records.
+pub fn put_record(tlc: &[u8], out: &mut [u8])
     ensures { λ _. ⌜ now (out .exit) ≡ sets (now (out .entry)) 0 (now (tlc .entry)) ⌝ }
 {
     put(out, 0, tlc);
@@ -57,9 +58,9 @@ fn put_records(
 ) -> usize
     requires { ⌜ (h ≤ 32) × ((n ≤ 255) × (stride ≤ 130)) ⌝ }
     requires { ⌜ from + n * stride + recordLen h ≤ length (now source) + stride ⌝ }
-    requires { ⌜ 1 + length (flat (unmarked h (now source) from stride n marks)) ≤ length (now out) ⌝ }
-    ensures { λ r. ⌜ r ≡ 1 + length (flat (unmarked h (now (source .entry)) from stride n marks)) ⌝ }
-    ensures { λ _. ⌜ now (out .exit) ≡ sets (now (out .entry)) 1 (flat (unmarked h (now (source .entry)) from stride n marks)) ⌝ }
+    requires { ⌜ 1 + length (flatten (unmarked h (now source) from stride n marks)) ≤ length (now out) ⌝ }
+    ensures { λ r. ⌜ r ≡ 1 + length (flatten (unmarked h (now (source .entry)) from stride n marks)) ⌝ }
+    ensures { λ _. ⌜ now (out .exit) ≡ sets (now (out .entry)) 1 (flatten (unmarked h (now (source .entry)) from stride n marks)) ⌝ }
 {
     let size = TLC_FIXED + h;
     let mut place = from;
@@ -106,7 +107,7 @@ pub fn put_state(
     requires { ⌜ from + n * stride + recordLen h ≤ length (now source) + stride ⌝ }
     requires { ⌜ k ≡ length (unmarked h (now source) from stride n marks) ⌝ }
     requires { ⌜ (length (now remote) ≡ 36) × (length (now local) ≡ 36) ⌝ }
-    requires { ⌜ 73 + length (flat (unmarked h (now source) from stride n marks)) ≤ length (now out) ⌝ }
+    requires { ⌜ 73 + length (flatten (unmarked h (now source) from stride n marks)) ≤ length (now out) ⌝ }
     ensures { λ r. ⌜ r ≡ length (stateBytes (unmarked h (now (source .entry)) from stride n marks)
         (shareLeft «remote_unlocked» (now (remote .entry))) (shareLeft «local_unlocked» (now (local .entry)))) ⌝ }
     ensures { λ _. ⌜ now (out .exit) ≡ sets (now (out .entry)) 0 (stateBytes

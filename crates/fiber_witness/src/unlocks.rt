@@ -1,5 +1,7 @@
 // What the unlocks of a witness do: they are taken in order, before anything is written.
 use fiber_types::unlock;
+use fiber_types::unlock::LOCAL_SHARE;
+use fiber_types::unlock::REMOTE_SHARE;
 use fiber_types::unlock::UnlockRead;
 ghost use mathlib.Core.Path.{_≡_};
 ghost use Prim.Native.Nat.{ℕ, _≤_};
@@ -51,20 +53,20 @@ fn refused(
     }
 }
 
-// Takes the unlocks from first on, in order, of a witness with n TLCs.
-pub fn take_unlocks(w: &[u8], n: usize, first: usize) -> TakenUnlocks
-    ensures { λ r. ⌜ ((share : ℕ) → TakesAs (S.takeUnlocks n share (now (w .entry)) S.none (places (now (w .entry)) first))
+// Takes the unlocks from the first on, in order, of a witness with n TLCs.
+pub fn take_unlocks(w: &[u8], n: usize, first_unlock: usize) -> TakenUnlocks
+    ensures { λ r. ⌜ ((sharePlace : ℕ) → TakesAs (S.takeUnlocks n sharePlace (now (w .entry)) S.none (places (now (w .entry)) «first_unlock»))
         (r .answer) (r .marks) (r .remote) (r .local)) ⌝ }
 {
     let mut marks = no_marks();
     let mut remote = false;
     let mut local = false;
-    let mut at = first;
+    let mut at = first_unlock;
     while at < w.len() {
         let b = w[at] as usize;
-        if b == 255 {
+        if b == LOCAL_SHARE {
             local = true;
-        } else if b == 254 {
+        } else if b == REMOTE_SHARE {
             remote = true;
         } else {
             if n <= b {
@@ -76,7 +78,7 @@ pub fn take_unlocks(w: &[u8], n: usize, first: usize) -> TakenUnlocks
             marks[b] = true;
         }
         match unlock::read(w, at) {
-            UnlockRead::Record(u) => {
+            UnlockRead::Whole(u) => {
                 at += u.witness_len();
             }
             // One that is cut short is the last.

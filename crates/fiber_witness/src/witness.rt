@@ -11,7 +11,10 @@ ghost use Rattle.fiber_witness.specs.Witness.{readUnlocks, readTlcs, rea
 // A share: key hash 20, amount 16.
 pub const SHARE: usize = 36;
 
-// Both of them.
+// Its amount begins behind its key hash.
+pub const SHARE_AMOUNT: usize = 20;
+
+// Both shares.
 pub const SHARES: usize = 72;
 
 // A state's bytes beside its TLCs: the count and both shares.
@@ -33,18 +36,18 @@ pub enum WitnessRead {
 }
 
 // The unlocks behind the shares. An unlock that is cut short is turned down.
-fn read_unlocks(w: &[u8], n: usize, share: usize) -> WitnessRead
-    requires { ⌜ share + 72 ≤ length (now w) ⌝ }
-    ensures { λ r. ⌜ r ≡ readUnlocks (now (w .entry)) n share ⌝ }
+fn read_unlocks(w: &[u8], n: usize, share_place: usize) -> WitnessRead
+    requires { ⌜ «share_place» + 72 ≤ length (now w) ⌝ }
+    ensures { λ r. ⌜ r ≡ readUnlocks (now (w .entry)) n «share_place» ⌝ }
 {
-    let first = share + SHARES;
-    let mut at = first;
-    let mut unlocks = 0;
+    let first_unlock = share_place + SHARES;
+    let mut at = first_unlock;
+    let mut unlock_count = 0;
     while at < w.len() {
         match unlock::read(w, at) {
-            UnlockRead::Record(u) => {
+            UnlockRead::Whole(u) => {
                 at += u.witness_len();
-                unlocks += 1;
+                unlock_count += 1;
             }
             UnlockRead::Refused { number, place } => {
                 return WitnessRead::Refused { number, place };
@@ -53,9 +56,9 @@ fn read_unlocks(w: &[u8], n: usize, share: usize) -> WitnessRead
     }
     WitnessRead::Whole {
         n,
-        unlock_count: unlocks,
-        share_place: share,
-        first_unlock: first,
+        unlock_count,
+        share_place,
+        first_unlock,
     }
 }
 
@@ -65,21 +68,21 @@ fn read_tlcs(h: usize, w: &[u8], n: usize) -> WitnessRead
     ensures { λ r. ⌜ r ≡ readTlcs n h (now (w .entry)) n 2 ⌝ }
 {
     let size = TLC_FIXED + h;
-    let share = 2 + n * size;
-    if w.len() < share {
+    let share_place = 2 + n * size;
+    if w.len() < share_place {
         let whole = (w.len() - 2) / size;
         return WitnessRead::Refused {
             number: 2,
             place: 2 + whole * size,
         };
     }
-    if w.len() - share < SHARES {
+    if w.len() - share_place < SHARES {
         return WitnessRead::Refused {
             number: 3,
-            place: share,
+            place: share_place,
         };
     }
-    read_unlocks(w, n, share)
+    read_unlocks(w, n, share_place)
 }
 
 // Reads a witness of a channel whose hashes have h bytes, 20 or 32.

@@ -3,6 +3,7 @@
 // A program; uses the two forms, the upper face, what is below it, test_lines, and the toolchain's libraries for files.
 use fiber_bytes::part_of;
 use fiber_bytes::put;
+use fiber_choice::kinds::Found;
 use fiber_choice::kinds::PAIR;
 use fiber_choice::kinds::TRACKED_FIXED;
 use fiber_types::tlc::valid_hash_len;
@@ -14,7 +15,6 @@ use std::num::wrapping_add_usize;
 use test_lines::find;
 use test_lines::number;
 use test_lines::unhex;
-use watchtower::choice::Found;
 use watchtower::witness;
 use watchtower::witness::WitnessRead;
 ghost use mathlib.Core.Path.{_≡_};
@@ -74,10 +74,10 @@ fn read_numbers(r: WitnessRead) -> [usize; 5] {
     match r {
         WitnessRead::Whole {
             n,
-            unlock_count: unlocks,
-            share_place: share,
-            first_unlock: first,
-        } => [0, n, unlocks, share, first],
+            unlock_count,
+            share_place,
+            first_unlock,
+        } => [0, n, unlock_count, share_place, first_unlock],
         WitnessRead::Refused { number, place } => [1, number, place, 0, 0],
     }
 }
@@ -136,7 +136,7 @@ fn pairs_of(s: &[u8]) -> [Preimage; 16] {
 // The search among the first n of 16 records. Lends a slice of structs, so it is proved by hand.
 fn found_in_list(list: [Preimage; 16], n: usize, hash: [u8; 32]) -> Found
     requires { ⌜ n ≤ 16 ⌝ }
-    ensures { λ r. ⌜ r ≡ findPair 0 (entries pairLen (flatPairs (take n list))) hash ⌝ }
+    ensures { λ r. ⌜ r ≡ findPair (entries pairLen (flatPairs (take n list))) hash ⌝ }
 {
     preimage_list::find_pair(&list[..n], hash)
 }

@@ -4,17 +4,17 @@ use Prim.Native.Nat.{ℕ, zero, suc, _+_, _≤_, _<_}
 use native.Mathlib.Omega.{arith}
 use mathlib.Core.Path.{_≡_, refl, sym, ap, subst, _∙_}
 use mathlib.Core.Bool.{Bool, true, false, cond}
-use mathlib.Core.List.{List, [], _∷_, _++_, map}
+use mathlib.Core.List.{List, [], _∷_, _++_, map, flatMap}
 use lib.ListN.{length, getD, take, length-append, List·getD-map}
 use lib.Seq.{take-at, drop-at, take-all}
-use Rattle.fiber_choice.specs.Entries.{same, entries, trackedHash, trackedAlgorithm, pairLen, pairHash, pairPreimage}
+use Rattle.fiber_choice.specs.Entries.{same, entries, findFirst, trackedHash, trackedAlgorithm, pairLen, pairHash, pairPreimage}
 use Rattle.fiber_choice.specs.Preimages.{digest, findPair, countsAt}
 use Rattle.fiber_choice.specs.declared.kinds.Found.{Found}
 use Rattle.fiber_choice.specs.declared.kinds.Found.the-variants.{At, None}
 use Rattle.preimage_list.specs.declared.Preimage.{Preimage}
 use Rattle.preimage_list.specs.PreimageList.{flatPairs}
-use Rattle.fiber_choice.proofs.EntriesLaws.{entries-none, entries-append}
-use Rattle.fiber_choice.proofs.PreimagesLaws.{find-none, find-more, counts-by}
+use Rattle.fiber_choice.proofs.EntriesLaws.{entries-none, entries-append, find-none, find-more}
+use Rattle.fiber_choice.proofs.PreimagesLaws.{hasHash, find-by, counts-by}
 
 -- the first pair with a hash; the first of the list is at place i
 unfoldable pub findIn : ℕ → List Preimage → List ℕ → Found
@@ -56,22 +56,22 @@ module _ (p : Preimage) (z : SizedPair p) where
 
 -- the entries are the pairs, one for one
 pub entries-flat : (ps : List Preimage) → Sized ps → entries pairLen (flatPairs ps) ≡ map bytesOf ps
-unfolding flatPairs
+unfolding flatPairs flatMap
 entries-flat [] z = entries-none pairLen
 entries-flat (p ∷ ps) z = entries-append pairLen (bytesOf p) (flatPairs ps) (omega arith) (bytes-64 p (z .0)) ∙ ap (λ (es : List (List ℕ)). bytesOf p ∷ es) (entries-flat ps (z .1))
 
 -- ---- the search
 
-find-from : (i : ℕ) (ps : List Preimage) (h : List ℕ) → Sized ps → findIn i ps h ≡ findPair i (map bytesOf ps) h
+find-from : (i : ℕ) (ps : List Preimage) (h : List ℕ) → Sized ps → findIn i ps h ≡ findFirst (hasHash h) i (map bytesOf ps)
 unfolding findIn
-find-from i [] h z = sym (find-none i h)
+find-from i [] h z = sym (find-none (hasHash h) i)
 find-from i (p ∷ ps) h z =
-    rw (find-more i (bytesOf p) (map bytesOf ps) h, pair-hash p (z .0))
+    rw (find-more (hasHash h) i (bytesOf p) (map bytesOf ps), pair-hash p (z .0))
     (ap (λ (next : Found). cond (same (p .hash) h) (At i) next) (find-from (i + 1) ps h (z .1)))
 
 -- on the same pairs, this search and the flat slice's find the same
-pub find-agrees : (ps : List Preimage) (h : List ℕ) → Sized ps → findIn 0 ps h ≡ findPair 0 (entries pairLen (flatPairs ps)) h
-find-agrees ps h z = find-from 0 ps h z ∙ ap (λ (es : List (List ℕ)). findPair 0 es h) (sym (entries-flat ps z))
+pub find-agrees : (ps : List Preimage) (h : List ℕ) → Sized ps → findIn 0 ps h ≡ findPair (entries pairLen (flatPairs ps)) h
+find-agrees ps h z = find-from 0 ps h z ∙ find-by (map bytesOf ps) h ∙ ap (λ (es : List (List ℕ)). findPair es h) (sym (entries-flat ps z))
 
 -- ---- the preimages
 

@@ -1,9 +1,8 @@
 -- Stored preimages as a list of structs; document 01, "What the host lends".
 use Prim.Native.Nat.{ℕ}
-use mathlib.Core.List.{List, [], _∷_, _++_}
+use mathlib.Core.List.{List, _++_, flatMap}
 use Rattle.preimage_list.specs.declared.Preimage.{Preimage}
 
 -- the same pairs as a flat slice: hash and preimage of each, one behind the other
 unfoldable pub flatPairs : List Preimage → List ℕ
-flatPairs [] = []
-flatPairs (p ∷ ps) = (p .hash ++ p .preimage) ++ flatPairs ps
+flatPairs ps = flatMap (λ (p : Preimage). p .hash ++ p .preimage) ps

@@ -1,8 +1,8 @@
 // Stored preimages as a list of structs: a lent slice, each struct two arrays of 32 bytes. `find_pair` is the one function that carries such a
 // slice, and is proved by hand; each comparison stands in a function on plain arrays. A form beside the upper face, for whoever lends such a
-// list; no crate of the core uses it, the program `forms` runs it. Uses the upper face and fiber_first.
+// list; no crate of the core uses it, the program `forms` runs it. Uses fiber_first, and types and definitions of fiber_choice.
+use fiber_choice::kinds::Found;
 use fiber_first::entries::same;
-use watchtower::choice::Found;
 ghost use mathlib.Core.Path.{_≡_};
 ghost use mathlib.Core.Bool.{cond};
 ghost use lib.Dec.{ltb};
@@ -32,7 +32,7 @@ fn found(at: usize, n: usize) -> Found
 
 // The first pair with a hash: what the flat slice's search finds on the same pairs.
 pub fn find_pair(pairs: &[Preimage], hash: [u8; 32]) -> Found
-    ensures { λ r. ⌜ r ≡ findPair 0 (S.entries S.pairLen (flatPairs (now (pairs .entry)))) hash ⌝ }
+    ensures { λ r. ⌜ r ≡ findPair (S.entries S.pairLen (flatPairs (now (pairs .entry)))) hash ⌝ }
 {
     let mut end = pairs.len();
     let mut i = 0;

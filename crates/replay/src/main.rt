@@ -2,7 +2,7 @@
 //
 // The list's top says how it was made and what a line holds. Each case is one call of an export of the C interface, and
 // status, answer buffer and output buffer are compared whole, so that a byte written where none belongs is seen.
-// A program; uses the two C interfaces, test_lines, and the toolchain's libraries for files.
+// A program; uses the two C interfaces, fiber_bytes, fiber_first, test_lines, and the toolchain's libraries for files.
 use fiber_bytes::le64;
 use fiber_bytes::part_of;
 use fiber_bytes::put;

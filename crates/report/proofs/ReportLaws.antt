@@ -15,11 +15,11 @@ use Rattle.fiber_bytes.specs.Bytes.{part}
 use Rattle.fiber_bytes.proofs.BytesLaws.{either, sets-append}
 use Rattle.fiber_types.specs.declared.answer.Written.{Written}
 use Rattle.fiber_types.specs.declared.answer.Written.the-variants as written·
-use Rattle.fiber_types.specs.Records.{Outcome}
-use Rattle.fiber_witness.specs.Witness.{recordLen, records}
+use Rattle.fiber_types.specs.Records.{Outcome, unwritten}
+use Rattle.fiber_witness.specs.Witness.{recordLen, chunks}
 use Rattle.fiber_witness.specs.Update.{updated}
 use Rattle.fiber_witness.proofs.LeftLaws as left·
-use Rattle.report.specs.Report.{digitsWithin, decimal, hexDigit, hex, hexHighest, tlcLine, tlcLines, shareLine, refusedText, stateText, saidText, Report, afterUpdate, afterInput, reported, ascii}
+use Rattle.report.specs.Report.{digitsWithin, decimal, hexDigit, hex, hexHighest, tlcLine, tlcLines, shareLine, refusedText, stateText, reported, ascii, settled, textOf, Prints}
 use Rattle.report.specs.inner.Hex.{hexBy}
 use Rattle.fiber_witness.proofs.WitnessLaws.{records-none, records-more}
 
@@ -307,17 +307,17 @@ module _ (o : List ℕ) (at : ℕ) (all out : List ℕ) (end : ℕ) where
   module _ (size n : ℕ) (l : List ℕ) (i from : ℕ) where
     -- a turn of the writing: one record is written
     pub lines-more : {out₁ : List ℕ} {end₁ : ℕ} → i < n → Wrote out end (tlcLine i (take (from + size - from) (drop from l))) out₁ end₁
-        → Left out end (tlcLines i (records size (n - i) (drop from l))) o at all
-        → Left out₁ end₁ (tlcLines (i + 1) (records size (n - (i + 1)) (drop (from + size) l))) o at all
+        → Left out end (tlcLines i (chunks size (n - i) (drop from l))) o at all
+        → Left out₁ end₁ (tlcLines (i + 1) (chunks size (n - (i + 1)) (drop (from + size) l))) o at all
     unfolding tlcLines
     lines-more h w e =
         let f : n - i ≡ suc (n - (i + 1)) = omega arith in
-        left-more (tlcLine i (take size (drop from l))) (tlcLines (i + 1) (records size (n - (i + 1)) (drop (from + size) l)))
+        left-more (tlcLine i (take size (drop from l))) (tlcLines (i + 1) (chunks size (n - (i + 1)) (drop (from + size) l)))
         (rw (add-sub-cancel-left from size) at w)
         (rw (f, records-more size (n - (i + 1)) (drop from l), drop-drop size from l) at e)
 
     -- nothing is left
-    pub lines-end : n ≤ i → Left out end (tlcLines i (records size (n - i) (drop from l))) o at all → Wrote o at all out end
+    pub lines-end : n ≤ i → Left out end (tlcLines i (chunks size (n - i) (drop from l))) o at all → Wrote o at all out end
     unfolding tlcLines
     lines-end h e =
         let f : n - i ≡ 0 = omega arith in
@@ -325,7 +325,7 @@ module _ (o : List ℕ) (at : ℕ) (all out : List ℕ) (end : ℕ) where
         (omega (arith, g .0), g .1)
 
 -- all records are left
-pub lines-start : (o : List ℕ) (at size n : ℕ) (l : List ℕ) → Left o at (tlcLines 0 (records size (n - 0) (drop 0 l))) o at (tlcLines 0 (records size n l))
+pub lines-start : (o : List ℕ) (at size n : ℕ) (l : List ℕ) → Left o at (tlcLines 0 (chunks size (n - 0) (drop 0 l))) o at (tlcLines 0 (chunks size n l))
 lines-start o at size n l = rw (sub-zero n) (refl, refl)
 
 -- a record that is there
@@ -357,12 +357,12 @@ share-fits n h a b =
 -- six writes are the text of a state
 pub state-text : (o : List ℕ) (h : ℕ) (s : List ℕ) {u v o₁ o₂ o₃ o₄ o₅ o₆ : List ℕ} {p₁ p₂ p₃ p₄ p₅ p₆ : ℕ} → u ≡ part s (1 + getD s 0 0 * recordLen h) 36
     → v ≡ part s (1 + getD s 0 0 * recordLen h + 36) 36 → Wrote o 0 (ascii "tlcs ") o₁ p₁ → Wrote o₁ p₁ (decimal (getD s 0 0)) o₂ p₂ → Wrote o₂ p₂ (10 ∷ []) o₃ p₃
-    → Wrote o₃ p₃ (tlcLines 0 (records (recordLen h) (getD s 0 0) (take (length s - 1) (drop 1 s)))) o₄ p₄ → Wrote o₄ p₄ (shareLine (ascii "remote ") u) o₅ p₅
+    → Wrote o₃ p₃ (tlcLines 0 (chunks (recordLen h) (getD s 0 0) (take (length s - 1) (drop 1 s)))) o₄ p₄ → Wrote o₄ p₄ (shareLine (ascii "remote ") u) o₅ p₅
     → Wrote o₅ p₅ (shareLine (ascii "local ") v) o₆ p₆ → Wrote o 0 (stateText h s) o₆ p₆
 unfolding stateText
 state-text o h s {u} {v} f g a b c d e k =
     let n = getD s 0 0 in
-    let lines = tlcLines 0 (records (recordLen h) n (drop 1 s)) in
+    let lines = tlcLines 0 (chunks (recordLen h) n (drop 1 s)) in
     let d₁ = rw (tail s) at d in
     rw (← f, ← g)
     (then-at o 0 (ascii "tlcs " ++ decimal n ++ (10 ∷ []) ++ lines ++ shareLine (ascii "remote ") u) (shareLine (ascii "local ") v)
@@ -382,7 +382,7 @@ share-line-short word s =
     simp length-append (omega (arith, hex-length (part s 0 20), highest-length (part s 20 16), part-short s 0 20, part-short s 20 16))
 
 -- n lines, each no longer than that
-tlc-lines-short : (size n i : ℕ) (l : List ℕ) → length (tlcLines i (records size n l)) ≤ n * (26 + 2 * size)
+tlc-lines-short : (size n i : ℕ) (l : List ℕ) → length (tlcLines i (chunks size n l)) ≤ n * (26 + 2 * size)
 unfolding tlcLines
 tlc-lines-short size zero i l = rw (records-none size l) (omega arith)
 tlc-lines-short size (suc n) i l =
@@ -390,14 +390,14 @@ tlc-lines-short size (suc n) i l =
     (omega (
       arith,
       suc-mul n (26 + 2 * size),
-      length-append (tlcLine i (take size l)) (tlcLines (i + 1) (records size n (drop size l))),
+      length-append (tlcLine i (take size l)) (tlcLines (i + 1) (chunks size n (drop size l))),
       tlc-line-short i (take size l),
       part-short l 0 size,
       tlc-lines-short size n (i + 1) (drop size l),
     ))
 
 -- 255 lines of 97 bytes
-pub lines-short : (size n i : ℕ) (l : List ℕ) → n ≤ 255 → size ≤ 97 → length (tlcLines i (records size n l)) ≤ 56100
+pub lines-short : (size n i : ℕ) (l : List ℕ) → n ≤ 255 → size ≤ 97 → length (tlcLines i (chunks size n l)) ≤ 56100
 lines-short size n i l h g =
     let b : 26 + 2 * size ≤ 220 = omega arith in
     omega (arith, tlc-lines-short size n i l, mul-le-mul h b)
@@ -422,63 +422,64 @@ text-short h s a b =
 
 -- ---- the report, by its input
 
-module _ (input state out : List ℕ) where
-  -- the length of the text, the output with it, and the buffer of the state
-  abbrev Says : ℕ → List ℕ → List ℕ → Type 0
-  Says r o s = (r ≡ length (reported input state .text)) × ((o ≡ sets out 0 (reported input state .text)) × (s ≡ reported input state .state))
+module _ (input buffer out : List ℕ) where
+  -- what is printed, by what the input comes to
+  says : (x : Outcome Written) → settled input buffer ≡ x → (r : ℕ) (after b : List ℕ)
+      → (r ≡ length (textOf (getD input 0 0) (x .bytes) (x .answer))) × (after ≡ sets out 0 (textOf (getD input 0 0) (x .bytes) (x .answer))) → b ≡ x .bytes
+      → Prints (reported input buffer) out r after b
+  unfolding reported
+  says x e r after b c d = rw e (c .0, (c .1, d))
 
   -- an input that is turned down before the update
-  abbrev Untaken : Type 0
-  Untaken = reported input state ≡ record { text = refusedText 14 0; state = state }
+  says-untaken : settled input buffer ≡ unwritten (written·.Refused 14 0) buffer → (r : ℕ) (o : List ℕ) → (r ≡ length (refusedText 14 0)) × (o ≡ sets out 0 (refusedText 14 0))
+      → Prints (reported input buffer) out r o buffer
+  unfolding textOf
+  says-untaken u r o e = says _ u r o buffer e refl
 
-  says-untaken : Untaken → (r : ℕ) (o : List ℕ) → (r ≡ length (refusedText 14 0)) × (o ≡ sets out 0 (refusedText 14 0)) → Says r o state
-  says-untaken u r o e = (rw u (e .0), (rw u (e .1), rw u))
-
-  pub says-none : length input < 1 → (r : ℕ) (o : List ℕ) → (r ≡ length (refusedText 14 0)) × (o ≡ sets out 0 (refusedText 14 0)) → Says r o state
-  unfolding reported afterInput
-  says-none f = says-untaken (rw (le-ltb 65536 (length input) (omega arith)) (go input f))
+  pub says-none : length input < 1 → (r : ℕ) (o : List ℕ) → (r ≡ length (refusedText 14 0)) × (o ≡ sets out 0 (refusedText 14 0)) → Prints (reported input buffer) out r o buffer
+  unfolding settled
+  says-none f = says-untaken (go input f)
     where
-      go : (i : List ℕ) → length i < 1 → afterInput i state ≡ record { text = refusedText 14 0; state = state }
+      go : (i : List ℕ) → length i < 1 → settled i buffer ≡ unwritten (written·.Refused 14 0) buffer
       go [] g = refl
       go (x ∷ i) g = absurd (omega arith)
 
-  pub says-long : 65536 < length input → (r : ℕ) (o : List ℕ) → (r ≡ length (refusedText 14 0)) × (o ≡ sets out 0 (refusedText 14 0)) → Says r o state
-  unfolding reported
-  says-long f = says-untaken (rw (lt-ltb 65536 (length input) f))
+  pub says-long : 65536 < length input → (r : ℕ) (o : List ℕ) → (r ≡ length (refusedText 14 0)) × (o ≡ sets out 0 (refusedText 14 0)) → Prints (reported input buffer) out r o buffer
+  unfolding settled
+  says-long f = says-untaken (go input f)
+    where
+      go : (i : List ℕ) → 65536 < length i → settled i buffer ≡ unwritten (written·.Refused 14 0) buffer
+      go [] g = refl
+      go (x ∷ i) g = rw (lt-ltb 65536 (1 + length i) (omega arith))
 
   module _ (f : 1 ≤ length input) (g : length input ≤ 65536) (w : List ℕ) (e : w ≡ take (length input - 1) (drop 1 input)) where
     abbrev done : Outcome Written
-    done = updated (getD input 0 0) w state
+    done = updated (getD input 0 0) w buffer
 
-    taken : reported input state ≡ record { text = saidText (getD input 0 0) (done .bytes) (done .answer); state = done .bytes }
-    unfolding reported afterInput afterUpdate
-    taken = rw (le-ltb 65536 (length input) g, e) (go input f)
+    taken : settled input buffer ≡ done
+    unfolding settled
+    taken = rw e (go input f g)
       where
-        go : (i : List ℕ) → 1 ≤ length i
-            → afterInput i state
-            ≡ record {
-              text = saidText (getD i 0 0) (updated (getD i 0 0) (take (length i - 1) (drop 1 i)) state .bytes) (updated (getD i 0 0) (take (length i - 1) (drop 1 i)) state .answer);
-              state = updated (getD i 0 0) (take (length i - 1) (drop 1 i)) state .bytes;
-            }
-        go [] l = absurd (omega arith)
-        go (x ∷ i) l =
+        go : (i : List ℕ) → 1 ≤ length i → length i ≤ 65536 → settled i buffer ≡ updated (getD i 0 0) (take (length i - 1) (drop 1 i)) buffer
+        go [] l m = absurd (omega arith)
+        go (x ∷ i) l m =
             let a : take (length (x ∷ i) - 1) i ≡ i = take-all (length (x ∷ i) - 1) i (omega arith) in
-            rw a
+            rw (le-ltb 65536 (1 + length i) (omega arith), a)
 
     module _ (s : List ℕ) (b : s ≡ done .bytes) where
       pub says-state : (len : ℕ) → written·.Bytes len ≡ done .answer → (t : List ℕ) → t ≡ part s 0 len → (r : ℕ) (o : List ℕ)
-          → (r ≡ length (stateText (getD input 0 0) t)) × (o ≡ sets out 0 (stateText (getD input 0 0) t)) → Says r o s
-      unfolding saidText
+          → (r ≡ length (stateText (getD input 0 0) t)) × (o ≡ sets out 0 (stateText (getD input 0 0) t)) → Prints (reported input buffer) out r o s
+      unfolding textOf
       says-state len a t d r o c =
-          let x : reported input state .text ≡ stateText (getD input 0 0) t = ap (λ (q : Report). q .text) taken ∙ rw (← a, ← b, d) in
-          (c .0 ∙ ap length (sym x), (c .1 ∙ ap (sets out 0) (sym x), b ∙ sym (ap (λ (q : Report). q .state) taken)))
+          let x : stateText (getD input 0 0) t ≡ textOf (getD input 0 0) (done .bytes) (done .answer) = rw (← a, ← b, d) in
+          says done taken r o s (c .0 ∙ ap length x, c .1 ∙ ap (sets out 0) x) b
 
       pub says-refused : (number place : ℕ) → written·.Refused number place ≡ done .answer → (r : ℕ) (o : List ℕ)
-          → (r ≡ length (refusedText number place)) × (o ≡ sets out 0 (refusedText number place)) → Says r o s
-      unfolding saidText
+          → (r ≡ length (refusedText number place)) × (o ≡ sets out 0 (refusedText number place)) → Prints (reported input buffer) out r o s
+      unfolding textOf
       says-refused number place a r o c =
-          let x : reported input state .text ≡ refusedText number place = ap (λ (q : Report). q .text) taken ∙ rw (← a) in
-          (c .0 ∙ ap length (sym x), (c .1 ∙ ap (sets out 0) (sym x), b ∙ sym (ap (λ (q : Report). q .state) taken)))
+          let x : refusedText number place ≡ textOf (getD input 0 0) (done .bytes) (done .answer) = rw (← a) in
+          says done taken r o s (c .0 ∙ ap length x, c .1 ∙ ap (sets out 0) x) b
 
 -- what the update left, as the report takes it
 pub left-part : (h : ℕ) (w state s : List ℕ) (len : ℕ) → s ≡ updated h w state .bytes → written·.Bytes len ≡ updated h w state .answer

@@ -2,15 +2,17 @@
 use Prim.Native.Nat.{ℕ, zero, suc, _+_, _*_, _/_, _%_}
 use Prim.Native.Char.{code}
 use Prim.Native.String.{String, [] as []ˢ, _∷_ as _∷ˢ_}
+use mathlib.Core.Path.{_≡_}
 use mathlib.Core.Bool.{cond}
 use mathlib.Core.List.{List, [], _∷_, _++_}
 use lib.ListN.{length, getD, take, drop}
+use lib.Seq.{sets}
 use lib.Dec.{ltb}
 use Rattle.fiber_bytes.specs.Bytes.{part}
 use Rattle.fiber_types.specs.declared.answer.Written.{Written}
 use Rattle.fiber_types.specs.declared.answer.Written.the-variants as written·
-use Rattle.fiber_types.specs.Records.{Outcome}
-use Rattle.fiber_witness.specs.Witness.{recordLen, records}
+use Rattle.fiber_types.specs.Records.{Outcome, unwritten}
+use Rattle.fiber_witness.specs.Witness.{recordLen, chunks}
 use Rattle.fiber_witness.specs.Update.{updated}
 
 -- the character codes of a text
@@ -66,32 +68,31 @@ refusedText number place = ascii "refused " ++ decimal number ++ ascii " at " ++
 unfoldable pub stateText : ℕ → List ℕ → List ℕ
 stateText h s =
     let n = getD s 0 0 in
-    let share = 1 + n * recordLen h in
+    let sharePlace = 1 + n * recordLen h in
     ascii "tlcs "
     ++ decimal n
     ++ ascii "\n"
-    ++ tlcLines 0 (records (recordLen h) n (drop 1 s))
-    ++ shareLine (ascii "remote ") (part s share 36)
-    ++ shareLine (ascii "local ") (part s (share + 36) 36)
+    ++ tlcLines 0 (chunks (recordLen h) n (drop 1 s))
+    ++ shareLine (ascii "remote ") (part s sharePlace 36)
+    ++ shareLine (ascii "local ") (part s (sharePlace + 36) 36)
 
 -- ---- the report
 
-unfoldable pub saidText : ℕ → List ℕ → Written → List ℕ
-saidText h state (written·.Bytes len) = stateText h (take len state)
-saidText h state (written·.Refused number place) = refusedText number place
-
--- What a report says, and the buffer for the updated state as it leaves it.
-pub record Report : Type 0 where
-  pub text : List ℕ
-  pub state : List ℕ
-
-unfoldable pub afterUpdate : ℕ → Outcome Written → Report
-afterUpdate h o = record { text = saidText h (o .bytes) (o .answer); state = o .bytes }
-
-unfoldable pub afterInput : List ℕ → List ℕ → Report
-afterInput [] state = record { text = refusedText 14 0; state = state }
-afterInput (h ∷ w) state = afterUpdate h (updated h w state)
-
 -- the input: one byte h, then the witness; 14 at 0 above 65,536 bytes in all, or for none
-unfoldable pub reported : List ℕ → List ℕ → Report
-reported input state = cond (ltb 65536 (length input)) (record { text = refusedText 14 0; state = state }) (afterInput input state)
+unfoldable pub settled : List ℕ → List ℕ → Outcome Written
+settled [] buffer = unwritten (written·.Refused 14 0) buffer
+settled (h ∷ w) buffer = cond (ltb 65536 (1 + length w)) (unwritten (written·.Refused 14 0) buffer) (updated h w buffer)
+
+unfoldable pub textOf : ℕ → List ℕ → Written → List ℕ
+textOf h buffer (written·.Bytes len) = stateText h (take len buffer)
+textOf h buffer (written·.Refused number place) = refusedText number place
+
+-- the text, and the buffer for the updated state as it is left
+unfoldable pub reported : List ℕ → List ℕ → Outcome (List ℕ)
+reported input buffer =
+    let o = settled input buffer in
+    record { answer = textOf (getD input 0 0) (o .bytes) (o .answer); bytes = o .bytes }
+
+-- a text's length, the output with it at its front, and that buffer
+abbrev pub Prints : Outcome (List ℕ) → List ℕ → ℕ → List ℕ → List ℕ → Type 0
+Prints o out r after buffer = (r ≡ length (o .answer)) × ((after ≡ sets out 0 (o .answer)) × (buffer ≡ o .bytes))

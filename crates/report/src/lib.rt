@@ -3,19 +3,20 @@
 // The writers here take any output. Bytes for which it has no room are dropped, and the answered place says how many there
 // were to be.
 //
-// For `settle`. Uses the upper face and fiber_bytes.
+// For `settle`. Uses the two faces and fiber_bytes.
 use fiber_bytes::part_of;
 use fiber_bytes::put;
 use fiber_types::answer::Written;
 use fiber_types::tlc::TLC_FIXED;
 use watchtower::update::update;
 use watchtower::witness::SHARE;
+use watchtower::witness::SHARE_AMOUNT;
 ghost use mathlib.Core.Path.{_≡_};
 ghost use mathlib.Core.List.{[], _∷_};
 ghost use Prim.Native.Nat.{_+_, _*_, _≤_, _<_};
 ghost use lib.ListN.{length, getD, set};
 ghost use lib.Seq.{sets};
-ghost use Rattle.fiber_witness.specs.Witness.{recordLen, records};
+ghost use Rattle.fiber_witness.specs.Witness.{recordLen, chunks};
 ghost use Rattle.report.specs.Report as S;
 ghost use Rattle.report.specs.inner.Hex.{hexBy};
 
@@ -112,8 +113,8 @@ fn put_tlc_line(out: &mut [u8], at: usize, i: usize, tlc: &[u8]) -> usize
 fn put_tlc_lines(out: &mut [u8], at: usize, tlcs: &[u8], n: usize, size: usize) -> usize
     requires { ⌜ (at ≤ 100) × ((n ≤ 255) × (size ≤ 97)) ⌝ }
     requires { ⌜ n * size ≤ length (now tlcs) ⌝ }
-    ensures { λ r. ⌜ (r ≡ at + length (S.tlcLines 0 (records size n (now (tlcs .entry))))) × (r ≤ 60000) ⌝ }
-    ensures { λ _. ⌜ now (out .exit) ≡ sets (now (out .entry)) at (S.tlcLines 0 (records size n (now (tlcs .entry)))) ⌝ }
+    ensures { λ r. ⌜ (r ≡ at + length (S.tlcLines 0 (chunks size n (now (tlcs .entry))))) × (r ≤ 60000) ⌝ }
+    ensures { λ _. ⌜ now (out .exit) ≡ sets (now (out .entry)) at (S.tlcLines 0 (chunks size n (now (tlcs .entry)))) ⌝ }
 {
     let mut end = at;
     let mut from = 0;
@@ -130,9 +131,9 @@ fn put_share_line(out: &mut [u8], at: usize, word: &[u8], share: &[u8]) -> usize
     ensures { λ _. ⌜ now (out .exit) ≡ sets (now (out .entry)) at (S.shareLine (now (word .entry)) (now (share .entry))) ⌝ }
 {
     let key = put_word(out, at, word);
-    let behind = put_hex(out, key, part_of(share, 0, 20), false);
+    let behind = put_hex(out, key, part_of(share, 0, SHARE_AMOUNT), false);
     let amount = put_word(out, behind, b" ");
-    let end = put_hex(out, amount, part_of(share, 20, 16), true);
+    let end = put_hex(out, amount, part_of(share, SHARE_AMOUNT, 16), true);
     put_word(out, end, b"\n")
 }
 
@@ -147,29 +148,32 @@ fn put_refused(out: &mut [u8], number: usize, place: usize) -> usize
     put_word(out, end, b"\n")
 }
 
-// A whole state, of n TLCs.
-fn put_state(out: &mut [u8], h: usize, state: &[u8]) -> usize
+// A whole state.
+fn put_state_text(out: &mut [u8], h: usize, state: &[u8]) -> usize
     requires { ⌜ (h ≤ 32) × (73 + getD (now state) 0 0 * recordLen h ≤ length (now state)) ⌝ }
     ensures { λ r. ⌜ r ≡ length (S.stateText h (now (state .entry))) ⌝ }
     ensures { λ _. ⌜ now (out .exit) ≡ sets (now (out .entry)) 0 (S.stateText h (now (state .entry))) ⌝ }
 {
     let size = TLC_FIXED + h;
     let n = state[0] as usize;
-    let share = 1 + n * size;
+    let share_place = 1 + n * size;
     let count = put_word(out, 0, b"tlcs ");
     let behind = put_decimal(out, count, n);
     let first = put_word(out, behind, b"\n");
     let remote = put_tlc_lines(out, first, &state[1..], n, size);
-    let local = put_share_line(out, remote, b"remote ", part_of(state, share, SHARE));
-    put_share_line(out, local, b"local ", part_of(state, share + SHARE, SHARE))
+    let local = put_share_line(out, remote, b"remote ", part_of(state, share_place, SHARE));
+    put_share_line(
+        out,
+        local,
+        b"local ",
+        part_of(state, share_place + SHARE, SHARE),
+    )
 }
 
-// Reads one byte h and a witness, updates it into the buffer state, and writes to out what `settle` prints of it; answers
-// the text's length.
-pub fn report(input: &[u8], state: &mut [u8], out: &mut [u8]) -> usize
-    ensures { λ r. ⌜ r ≡ length (S.reported (now (input .entry)) (now (state .entry)) .text) ⌝ }
-    ensures { λ _. ⌜ now (out .exit) ≡ sets (now (out .entry)) 0 (S.reported (now (input .entry)) (now (state .entry)) .text) ⌝ }
-    ensures { λ _. ⌜ now (state .exit) ≡ S.reported (now (input .entry)) (now (state .entry)) .state ⌝ }
+// Reads one byte h and a witness, updates it into the buffer, and writes to out what `settle` prints of it; answers the
+// text's length.
+pub fn report(input: &[u8], buffer: &mut [u8], out: &mut [u8]) -> usize
+    ensures { λ r. ⌜ S.Prints (S.reported (now (input .entry)) (now (buffer .entry))) (now (out .entry)) r (now (out .exit)) (now (buffer .exit)) ⌝ }
 {
     if input.len() < 1 {
         return put_refused(out, 14, 0);
@@ -178,8 +182,8 @@ pub fn report(input: &[u8], state: &mut [u8], out: &mut [u8]) -> usize
         return put_refused(out, 14, 0);
     }
     let h = input[0] as usize;
-    match update(h, &input[1..], state) {
-        Written::Bytes(len) => put_state(out, h, part_of(state, 0, len)),
+    match update(h, &input[1..], buffer) {
+        Written::Bytes(len) => put_state_text(out, h, part_of(buffer, 0, len)),
         Written::Refused { number, place } => put_refused(out, number, place),
     }
 }

@@ -1,5 +1,5 @@
 // The program `settle`: one byte h and a witness on standard input, the updated state or the refusal on standard output.
-// It only reads, calls and writes; what it prints is proved of `report`. Uses report, and the toolchain's libraries for files.
+// It only reads, calls and writes; what it prints is proved of `report`. Uses report, fiber_bytes, and the toolchain's libraries for files.
 use fiber_bytes::part_of;
 use libc::STDIN_FILENO;
 use libc::STDOUT_FILENO;
@@ -24,8 +24,8 @@ fn buffer() -> [u8; 65_536]
 fn main() {
     let mut input = input_buffer();
     let n = io::read_full(STDIN_FILENO, &mut input);
-    let mut state = buffer();
+    let mut updated = buffer();
     let mut out = buffer();
-    let length = report(part_of(&input, 0, n), &mut state, &mut out);
+    let length = report(part_of(&input, 0, n), &mut updated, &mut out);
     io::write_all(STDOUT_FILENO, part_of(&out, 0, length));
 }

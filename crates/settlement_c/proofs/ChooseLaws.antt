@@ -27,9 +27,9 @@ pub numbers-timeout : (place : ℕ) → choiceNumbers (choice·.Tlc place way·.
 unfolding choiceNumbers kindNumber pairNumber
 numbers-timeout place = rw (byte-tlc place way·.Timeout)
 
-pub numbers-preimage : (place pair : ℕ) → choiceNumbers (choice·.Tlc place (way·.Preimage pair)) ≡ 2 ∷ (place ∷ (pair ∷ []))
+pub numbers-preimage : (place pairPlace : ℕ) → choiceNumbers (choice·.Tlc place (way·.Preimage pairPlace)) ≡ 2 ∷ (place ∷ (pairPlace ∷ []))
 unfolding choiceNumbers kindNumber pairNumber
-numbers-preimage place pair = rw (byte-tlc place (way·.Preimage pair))
+numbers-preimage place pairPlace = rw (byte-tlc place (way·.Preimage pairPlace))
 
 -- each number where it stands
 pub key-two : (k : Key) → keyNumbers k ≡ getD (keyNumbers k) 0 0 ∷ (getD (keyNumbers k) 1 0 ∷ [])

@@ -16,7 +16,7 @@ use Rattle.fiber_bytes.specs.Bytes.{numbers}
 use Rattle.fiber_choice.specs.Request.{requestOf}
 use Rattle.fiber_choice.specs.HandedOut.{choiceByte}
 use Rattle.fiber_choice.specs.Choice.{choiceOf}
-use Rattle.types_c.specs.Answers.{Answer, refused, fields, OutCall, call}
+use Rattle.types_c.specs.Answers.{Answer, row, fields, OutCall, call}
 
 -- ---- sixteen numbers
 
@@ -24,13 +24,13 @@ use Rattle.types_c.specs.Answers.{Answer, refused, fields, OutCall, call}
 unfoldable pub kindNumber : Choice → ℕ
 kindNumber (choice·.Share side) = 0
 kindNumber (choice·.Tlc place way·.Timeout) = 1
-kindNumber (choice·.Tlc place (way·.Preimage pair)) = 2
+kindNumber (choice·.Tlc place (way·.Preimage pairPlace)) = 2
 
 -- the place of the preimage's pair
 unfoldable pub pairNumber : Choice → ℕ
 pairNumber (choice·.Share side) = 0
 pairNumber (choice·.Tlc place way·.Timeout) = 0
-pairNumber (choice·.Tlc place (way·.Preimage pair)) = pair
+pairNumber (choice·.Tlc place (way·.Preimage pairPlace)) = pairPlace
 
 -- 0 and 0 for our settlement key, 1 and a place for that of a settlement TLC
 unfoldable pub keyNumbers : Key → List ℕ
@@ -55,8 +55,8 @@ decisionNumbers d =
 -- 144 bytes: behind the front the sixteen numbers
 unfoldable pub chooseAnswer : ChoiceAnswer → Answer
 chooseAnswer (answer·.Chosen d) = fields (numbers (decisionNumbers d))
-chooseAnswer (answer·.Wait number place) = refused number place
-chooseAnswer (answer·.Refused number place) = refused number place
+chooseAnswer (answer·.Wait number place) = row number place
+chooseAnswer (answer·.Refused number place) = row number place
 
 unfoldable pub chooseCall : ℕ → Bool → Bool → ℕ → ℕ → ℕ → ℕ → ℕ → ℕ → ℕ → ℕ → ℕ → ℕ → ℕ
     → List ℕ → List ℕ → List ℕ → List ℕ → List ℕ → List ℕ → List ℕ → List ℕ → List ℕ → OutCall

@@ -11,15 +11,15 @@ use Rattle.fiber_witness.specs.declared.witness.WitnessRead.the-variants as rea
 use Rattle.fiber_witness.specs.Witness.{readWitness}
 use Rattle.fiber_witness.specs.Update.{updated}
 use Rattle.fiber_choice.specs.FirstRecords.{wroteFirstTlc, wroteFirst}
-use Rattle.types_c.specs.Answers.{Answer, refused, fields, call}
+use Rattle.types_c.specs.Answers.{Answer, row, fields, call}
 pub use Rattle.types_c.specs.Answers.{OutCall}
 
 -- ---- the reader
 
 -- 48 bytes: behind the front n, the number of unlocks, the places of the share part and of the first unlock
 unfoldable pub readAnswer : WitnessRead → Answer
-readAnswer (read·.Whole n unlocks share first) = fields (numbers (n ∷ (unlocks ∷ (share ∷ (first ∷ [])))))
-readAnswer (read·.Refused number place) = refused number place
+readAnswer (read·.Whole n unlockCount sharePlace firstUnlock) = fields (numbers (n ∷ (unlockCount ∷ (sharePlace ∷ (firstUnlock ∷ [])))))
+readAnswer (read·.Refused number place) = row number place
 
 unfoldable pub readCall : ℕ → List ℕ → List ℕ → OutCall
 readCall h w buffer = call 48 (readAnswer (readWitness h w)) [] [] buffer
@@ -29,7 +29,7 @@ readCall h w buffer = call 48 (readAnswer (readWitness h w)) [] [] buffer
 -- 24 bytes: behind the front the length that was written
 unfoldable pub writtenAnswer : Written → Answer
 writtenAnswer (written·.Bytes len) = fields (numbers (len ∷ []))
-writtenAnswer (written·.Refused number place) = refused number place
+writtenAnswer (written·.Refused number place) = row number place
 
 unfoldable pub writtenCall : Outcome Written → List ℕ → List ℕ → OutCall
 writtenCall o out buffer = call 24 (writtenAnswer (o .answer)) (o .bytes) out buffer

@@ -1,6 +1,8 @@
 // The choice over C. Its answer is sixteen numbers behind the front.
 use fiber_types::epoch::Epoch;
 use fiber_types::tlc::Amount;
+use fiber_types::unlock::LOCAL_SHARE;
+use fiber_types::unlock::REMOTE_SHARE;
 use types_c::front::accept;
 use types_c::front::refuse;
 use watchtower::choice;
@@ -27,12 +29,12 @@ fn choice_numbers(choice: Choice) -> [u64; 3]
 {
     match choice {
         Choice::Share(side) => match side {
-            Side::Remote => [0, 254, 0],
-            Side::Local => [0, 255, 0],
+            Side::Remote => [0, REMOTE_SHARE as u64, 0],
+            Side::Local => [0, LOCAL_SHARE as u64, 0],
         },
         Choice::Tlc { place, way } => match way {
             Way::Timeout => [1, place as u64, 0],
-            Way::Preimage(pair) => [2, place as u64, pair as u64],
+            Way::Preimage(pair_place) => [2, place as u64, pair_place as u64],
         },
     }
 }

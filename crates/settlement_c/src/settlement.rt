@@ -24,12 +24,17 @@ pub extern "C" fn fiber_settlement_read(h: u64, w: &[u8], answer: &mut [u8]) -> 
     match witness::read(h as usize, w) {
         WitnessRead::Whole {
             n,
-            unlock_count: unlocks,
-            share_place: share,
-            first_unlock: first,
+            unlock_count,
+            share_place,
+            first_unlock,
         } => accept(
             answer,
-            &[n as u64, unlocks as u64, share as u64, first as u64],
+            &[
+                n as u64,
+                unlock_count as u64,
+                share_place as u64,
+                first_unlock as u64,
+            ],
         ),
         WitnessRead::Refused { number, place } => refuse(answer, number, place),
     }

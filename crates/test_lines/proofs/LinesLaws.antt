@@ -1,19 +1,17 @@
 -- Laws of `specs/Lines.antt`: each definition by its tests, and a turn of each loop as "the rest from here".
 -- Assumes nothing.
-use Prim.Native.Nat.{ℕ, suc, _+_, _-_, _*_, _/_, _%_, _^_, _≤_, _<_}
+use Rattle.fiber_bytes.proofs.BytesLaws.{one-less, sets-out}
+use Prim.Native.Nat.{ℕ, _+_, _-_, _*_, _/_, _%_, _^_, _≤_, _<_}
 use native.Mathlib.Nat.{sub-zero, add-mod}
 use native.Mathlib.Numerals.{add-one}
 use native.Mathlib.Omega.{arith}
-use mathlib.Core.Path.{_≡_, refl, sym, ap, ap₂, _∙_}
+use mathlib.Core.Path.{_≡_, sym, ap, ap₂, _∙_}
 use mathlib.Core.Bool.{Bool, true, false}
-use mathlib.Core.List.{List, [], _∷_}
+use mathlib.Core.List.{List}
 use lib.ListN.{length, getD, set, drop, drop-of-length-le}
-use lib.Seq.{sets, set-out, drop-cons}
+use lib.Seq.{sets, drop-cons}
 use borrow.Author.Tests.{lt-ltb, le-ltb, le-leb, lt-leb, eq-eqb, ne-eqb}
 use Rattle.test_lines.specs.Lines.{digit, hexAt, hexBytes, holds, agree, numberFrom, findIn}
-
-left : (n i : ℕ) → i < n → n - i ≡ suc (n - (i + 1))
-left n i h = omega arith
 
 none-left : (n i : ℕ) → n ≤ i → n - i ≡ 0
 none-left n i h = omega arith
@@ -55,17 +53,13 @@ module _ (s : List ℕ) (i : ℕ) where
 
 -- ---- loops
 
-sets-none : (vs l : List ℕ) (i : ℕ) → length l ≤ i → sets l i vs ≡ l
-sets-none [] l i h = refl
-sets-none (v ∷ vs) l i h = rw (set-out l i v h) (sets-none vs l (suc i) (omega arith))
-
 module _ (s out : List ℕ) (n i : ℕ) where
   pub unhex-more : i < n → (x : ℕ) → x ≡ hexAt s (2 * i) → sets (set out i x) (i + 1) (hexBytes (n - (i + 1)) s (i + 1)) ≡ sets out i (hexBytes (n - i) s i)
   unfolding hexBytes
-  unhex-more h x e = rw (left n i h, e, add-one i)
+  unhex-more h x e = rw (one-less n i h, e, add-one i)
 
   pub unhex-full : length out ≤ i → out ≡ sets out i (hexBytes (n - i) s i)
-  unhex-full h = sym (sets-none (hexBytes (n - i) s i) out i h)
+  unhex-full h = sym (sets-out (hexBytes (n - i) s i) out i h)
 
   pub unhex-end : n ≤ i → out ≡ sets out i (hexBytes (n - i) s i)
   unfolding hexBytes
@@ -88,11 +82,11 @@ module _ (bytes s : List ℕ) where
     module _ (h : i < n) (x : ℕ) (f : x ≡ hexAt s (2 * i)) where
       pub holds-not : (getD bytes i 0 ≡ x → ⊥) → false ≡ r
       unfolding holds
-      holds-not g = rw (left n i h, ← f, ne-eqb (getD bytes i 0) x g) at e
+      holds-not g = rw (one-less n i h, ← f, ne-eqb (getD bytes i 0) x g) at e
 
       pub holds-more : getD bytes i 0 ≡ x → holds (n - (i + 1)) bytes s (i + 1) ≡ r
       unfolding holds
-      holds-more g = rw (left n i h, ← f, eq-eqb (getD bytes i 0) x g) at e
+      holds-more g = rw (one-less n i h, ← f, eq-eqb (getD bytes i 0) x g) at e
 
 module _ (s : List ℕ) (i x : ℕ) where
   pub number-more : i < length s → (d y : ℕ) → d ≡ digit (getD s i 0) → y ≡ (10 * x + d) % 2 ^ 64 → numberFrom y (drop (i + 1) s) ≡ numberFrom x (drop i s)
@@ -128,12 +122,12 @@ module _ (s : List ℕ) (b i r : ℕ) (e : findIn (length s - i) s i b ≡ r) wh
   module _ (h : i < length s) where
     pub find-here : getD s i 0 ≡ b → i ≡ r
     unfolding findIn
-    find-here g = rw (left (length s) i h, eq-eqb (getD s i 0) b g) at e
+    find-here g = rw (one-less (length s) i h, eq-eqb (getD s i 0) b g) at e
 
     pub find-line : (getD s i 0 ≡ b → ⊥) → getD s i 0 ≡ 10 → i ≡ r
     unfolding findIn
-    find-line f g = rw (left (length s) i h, ne-eqb (getD s i 0) b f, eq-eqb (getD s i 0) 10 g) at e
+    find-line f g = rw (one-less (length s) i h, ne-eqb (getD s i 0) b f, eq-eqb (getD s i 0) 10 g) at e
 
     pub find-on : (getD s i 0 ≡ b → ⊥) → (getD s i 0 ≡ 10 → ⊥) → findIn (length s - (i + 1)) s (i + 1) b ≡ r
     unfolding findIn
-    find-on f g = rw (left (length s) i h, ne-eqb (getD s i 0) b f, ne-eqb (getD s i 0) 10 g) at e
+    find-on f g = rw (one-less (length s) i h, ne-eqb (getD s i 0) b f, ne-eqb (getD s i 0) 10 g) at e

@@ -1,6 +1,6 @@
 -- Lists of test cases: a case to a line, fields parted by single blanks, numbers in decimal, bytes in hexadecimal.
 use Prim.Native.Nat.{ℕ, zero, suc, _+_, _-_, _*_, _/_, _%_, _^_}
-use mathlib.Core.Bool.{Bool, true, false, cond}
+use mathlib.Core.Bool.{Bool, true, cond, _&&_, _||_}
 use mathlib.Core.List.{List, [], _∷_}
 use lib.ListN.{length, getD}
 use lib.Dec.{eqb, ltb, leb}
@@ -21,13 +21,11 @@ hexBytes (suc n) s i = hexAt s (2 * i) ∷ hexBytes n s (i + 1)
 -- whether s holds n of the bytes in hexadecimal, from the i-th on
 unfoldable pub holds : ℕ → List ℕ → List ℕ → ℕ → Bool
 holds zero bytes s i = true
-holds (suc n) bytes s i =
-    let rest = holds n bytes s (i + 1) in
-    cond (eqb (getD bytes i 0) (hexAt s (2 * i))) rest false
+holds (suc n) bytes s i = eqb (getD bytes i 0) (hexAt s (2 * i)) && holds n bytes s (i + 1)
 
 -- whether s is the bytes in hexadecimal
 unfoldable pub agree : List ℕ → List ℕ → Bool
-agree bytes s = cond (eqb (length s / 2) (length bytes)) (holds (length bytes) bytes s 0) false
+agree bytes s = eqb (length s / 2) (length bytes) && holds (length bytes) bytes s 0
 
 -- a decimal number, modulo 2^64, with x read before
 unfoldable pub numberFrom : ℕ → List ℕ → ℕ
@@ -39,7 +37,7 @@ unfoldable pub findIn : ℕ → List ℕ → ℕ → ℕ → ℕ
 findIn zero s at b = at
 findIn (suc n) s at b =
     let rest = findIn n s (at + 1) b in
-    cond (eqb (getD s at 0) b) at (cond (eqb (getD s at 0) 10) at rest)
+    cond (eqb (getD s at 0) b || eqb (getD s at 0) 10) at rest
 
 unfoldable pub find : List ℕ → ℕ → ℕ → ℕ
 find s at b = findIn (length s - at) s at b

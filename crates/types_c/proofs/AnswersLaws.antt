@@ -1,6 +1,6 @@
 -- Laws of `specs/Answers.antt`: numbers one behind the other, and a call by its answer.
 -- Assumes nothing.
-use Prim.Native.Nat.{ℕ, _+_, _≤_, _<_}
+use Prim.Native.Nat.{ℕ, _≤_, _<_}
 use native.Mathlib.Omega.{arith}
 use mathlib.Core.Path.{_≡_, refl, sym}
 use mathlib.Core.List.{List, [], _++_}
@@ -12,7 +12,7 @@ use Rattle.fiber_bytes.proofs.BytesLaws.{leBytes-length, sets-then}
 use Rattle.fiber_types.specs.declared.key.KeyAnswer.{KeyAnswer}
 use Rattle.fiber_types.specs.declared.key.KeyHash.{KeyHash}
 use Rattle.fiber_types.specs.Key.{keyHash}
-use Rattle.types_c.specs.Answers.{Answer, refused, fields, answered, call, Leaves, keyAnswer}
+use Rattle.types_c.specs.Answers.{Answer, row, fields, answered, call, Leaves, keyAnswer}
 
 -- ---- one number behind the other
 
@@ -32,7 +32,7 @@ module _ (o : List ℕ) where
 -- ---- an answer given
 
 pub refused-by : (number place : ℕ) (buffer : List ℕ) {b : List ℕ} → b ≡ sets buffer 0 (leBytes 8 number ++ leBytes 8 place)
-    → Leaves (answered (refused number place) [] buffer) number [] b
+    → Leaves (answered (row number place) [] buffer) number [] b
 unfolding answered
 refused-by number place buffer e = rw e
 
@@ -43,7 +43,7 @@ fields-by bytes buffer e = rw e
 -- an output beside it changes nothing else
 pub answered-out : (a : Answer) (out buffer : List ℕ) → answered a out buffer ≡ record { status = answered a [] buffer .status; out = out; answer = answered a [] buffer .answer }
 unfolding answered
-answered-out (refused number place) out buffer = refl
+answered-out (row number place) out buffer = refl
 answered-out (fields bytes) out buffer = refl
 
 -- ---- a call

@@ -20,9 +20,9 @@ use Rattle.fiber_since.specs.Since.{absoluteExpiry}
 use Rattle.fiber_types.specs.Key.{keyHash}
 use Rattle.fiber_bytes.specs.Bytes.{leBytes, numbers}
 
--- an operation's answer: refused with number and place, or its fields
+-- an operation's answer: a row of document 01's table, by number and place, or its fields
 pub data Answer : Type 0 where
-  refused : ℕ → ℕ → Answer
+  row : ℕ → ℕ → Answer
   fields : List ℕ → Answer
 
 -- what a call leaves: the return value, the output, the answer buffer
@@ -33,7 +33,7 @@ pub record OutCall : Type 0 where
 
 -- an answer given, beside an output
 unfoldable pub answered : Answer → List ℕ → List ℕ → OutCall
-answered (refused number place) out buffer = record { status = number; out = out; answer = sets buffer 0 (leBytes 8 number ++ leBytes 8 place) }
+answered (row number place) out buffer = record { status = number; out = out; answer = sets buffer 0 (leBytes 8 number ++ leBytes 8 place) }
 answered (fields bytes) out buffer = record { status = 0; out = out; answer = sets buffer 0 ((leBytes 8 0 ++ leBytes 8 0) ++ bytes) }
 
 -- A call of an operation that makes `written` of the output; one without an output has empty lists there. A buffer shorter than the answer
@@ -50,7 +50,7 @@ Leaves c r out buffer = c ≡ record { status = r; out = out; answer = buffer }
 -- 40 bytes: behind the front number, index, length
 unfoldable pub mulAnswer : Scaled → Answer
 mulAnswer (scaled·.Epoch e) = fields (numbers (e .number ∷ (e .index ∷ (e .length ∷ []))))
-mulAnswer (scaled·.Refused number place) = refused number place
+mulAnswer (scaled·.Refused number place) = row number place
 
 unfoldable pub mulCall : ℕ → ℕ → ℕ → ℕ → ℕ → List ℕ → OutCall
 mulCall number index length numerator denominator buffer = call 40 (mulAnswer (scaled (epoch number index length) numerator denominator)) [] [] buffer
@@ -59,10 +59,12 @@ mulCall number index length numerator denominator buffer = call 40 (mulAnswer (s
 unfoldable pub isDueAnswer : DueTest → Answer
 isDueAnswer due·.Due = fields (numbers (1 ∷ []))
 isDueAnswer due·.NotDue = fields (numbers (0 ∷ []))
-isDueAnswer (due·.Refused number place) = refused number place
+isDueAnswer (due·.Refused number place) = row number place
 
 unfoldable pub isDueCall : ℕ → ℕ → ℕ → ℕ → ℕ → ℕ → ℕ → ℕ → ℕ → List ℕ → OutCall
-isDueCall a b c d e f g h i buffer = call 24 (isDueAnswer (dueTest (epoch a b c) (epoch d e f) (epoch g h i))) [] [] buffer
+isDueCall headerNumber headerIndex headerLength delayNumber delayIndex delayLength currentNumber currentIndex currentLength buffer =
+    call 24 (isDueAnswer (dueTest (epoch headerNumber headerIndex headerLength) (epoch delayNumber delayIndex delayLength)
+    (epoch currentNumber currentIndex currentLength))) [] [] buffer
 
 -- 32 bytes: behind the front 1 and the expiry in milliseconds, or 0 and 0
 unfoldable pub expiryAnswer : Expiry → Answer
@@ -75,7 +77,7 @@ expiryCall since buffer = call 32 (expiryAnswer (absoluteExpiry since)) [] [] bu
 -- 36 bytes: behind the front the 20 bytes of the hash
 unfoldable pub keyAnswer : KeyAnswer → List ℕ → Answer
 keyAnswer key·.Taken bytes = fields bytes
-keyAnswer (key·.Refused number place) bytes = refused number place
+keyAnswer (key·.Refused number place) bytes = row number place
 
 unfoldable pub keyCall : List ℕ → List ℕ → OutCall
 keyCall key buffer = call 36 (keyAnswer (keyHash key .answer) (keyHash key .bytes)) [] [] buffer

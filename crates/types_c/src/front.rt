@@ -17,7 +17,7 @@ pub fn put_front(answer: &mut [u8], number: u64, place: u64)
 
 // Refused; gives the return value, as accept does.
 pub fn refuse(answer: &mut [u8], number: usize, place: usize) -> u64
-    ensures { λ r. ⌜ S.Leaves (S.answered (S.refused number place) [] (now (answer .entry))) r [] (now (answer .exit)) ⌝ }
+    ensures { λ r. ⌜ S.Leaves (S.answered (S.row number place) [] (now (answer .entry))) r [] (now (answer .exit)) ⌝ }
 {
     put_front(answer, number as u64, place as u64);
     number as u64

@@ -70,36 +70,37 @@ pub extern "C" fn fiber_test_mul(
 // The due test on nine fields.
 #[no_mangle]
 pub extern "C" fn fiber_test_is_due(
-    a: u64,
-    b: u64,
-    c: u64,
-    d: u64,
-    e: u64,
-    f: u64,
-    g: u64,
-    h: u64,
-    i: u64,
+    header_number: u64,
+    header_index: u64,
+    header_length: u64,
+    delay_number: u64,
+    delay_index: u64,
+    delay_length: u64,
+    current_number: u64,
+    current_index: u64,
+    current_length: u64,
     answer: &mut [u8],
 ) -> u64
-    ensures { λ r. ⌜ S.Leaves (S.isDueCall a b c d e f g h i (now (answer .entry))) r [] (now (answer .exit)) ⌝ }
+    ensures { λ r. ⌜ S.Leaves (S.isDueCall «header_number» «header_index» «header_length» «delay_number» «delay_index» «delay_length»
+        «current_number» «current_index» «current_length» (now (answer .entry))) r [] (now (answer .exit)) ⌝ }
 {
     if answer.len() < IS_DUE_ANSWER {
         return 14;
     }
     let header = Epoch {
-        number: a,
-        index: b,
-        length: c,
+        number: header_number,
+        index: header_index,
+        length: header_length,
     };
     let delay = Epoch {
-        number: d,
-        index: e,
-        length: f,
+        number: delay_number,
+        index: delay_index,
+        length: delay_length,
     };
     let current = Epoch {
-        number: g,
-        index: h,
-        length: i,
+        number: current_number,
+        index: current_index,
+        length: current_length,
     };
     match is_due(header, delay, current) {
         DueTest::Due => accept(answer, &[1]),

@@ -2,7 +2,7 @@
 //
 // A line is: the hash's name, a message in hexadecimal ('-' for no bytes), how often the message is repeated, and the
 // digest in hexadecimal. Empty lines, and lines that start with '#', are passed over.
-// A program; uses the lower face, test_lines, and the toolchain's libraries for files.
+// A program; uses the lower face, fiber_bytes, test_lines, and the toolchain's libraries for files.
 use fiber_bytes::part_of;
 use libc::STDOUT_FILENO;
 use std::num::wrapping_add_u64;

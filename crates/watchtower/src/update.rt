@@ -14,16 +14,16 @@ ghost use lib.ListN.{length};
 ghost use Rattle.fiber_types.specs.Records.{Gives};
 ghost use Rattle.fiber_witness.specs.Witness.{places};
 ghost use Rattle.fiber_witness.specs.Update as S;
-ghost use Rattle.fiber_witness.specs.inner.Strided.{sharePlace};
+ghost use Rattle.fiber_witness.specs.inner.Strided.{behindTlcs};
 
 // What follows the reading: the unlocks are taken, and the state left is written.
-fn settle(h: usize, w: &[u8], n: usize, first: usize, out: &mut [u8]) -> Written
+fn settle(h: usize, w: &[u8], n: usize, first_unlock: usize, out: &mut [u8]) -> Written
     requires { ⌜ (h ≤ 32) × (n ≤ 255) ⌝ }
-    requires { ⌜ sharePlace h n + 72 ≤ length (now w) ⌝ }
+    requires { ⌜ behindTlcs h n + 72 ≤ length (now w) ⌝ }
     ensures { λ r. ⌜ Gives (S.written h (now (w .entry)) (now (out .entry))
-        (S.takeUnlocks n (sharePlace h n) (now (w .entry)) S.none (places (now (w .entry)) first))) r (now (out .exit)) ⌝ }
+        (S.takeUnlocks n (behindTlcs h n) (now (w .entry)) S.none (places (now (w .entry)) «first_unlock»))) r (now (out .exit)) ⌝ }
 {
-    let j = take_unlocks(w, n, first);
+    let j = take_unlocks(w, n, first_unlock);
     let answer = j.answer;
     let marks = j.marks;
     let remote = j.remote;
@@ -39,8 +39,8 @@ fn settle(h: usize, w: &[u8], n: usize, first: usize, out: &mut [u8]) -> Written
                     place: size,
                 };
             }
-            let share = 2 + n * (TLC_FIXED + h);
-            let behind = share + SHARE;
+            let share_place = 2 + n * (TLC_FIXED + h);
+            let behind = share_place + SHARE;
             put_state(
                 w,
                 2,
@@ -49,7 +49,7 @@ fn settle(h: usize, w: &[u8], n: usize, first: usize, out: &mut [u8]) -> Written
                 n,
                 marks,
                 k,
-                &w[share..share + SHARE],
+                &w[share_place..share_place + SHARE],
                 remote,
                 &w[behind..behind + SHARE],
                 local,
@@ -69,8 +69,8 @@ pub fn update(h: usize, w: &[u8], out: &mut [u8]) -> Written
             n,
             unlock_count: _,
             share_place: _,
-            first_unlock: first,
-        } => settle(h, w, n, first, out),
+            first_unlock,
+        } => settle(h, w, n, first_unlock, out),
         WitnessRead::Refused { number, place } => Written::Refused { number, place },
     }
 }

@@ -16,7 +16,7 @@ use Rattle.fiber_types.specs.Records.{validHashLen, witnessLen}
 use Rattle.fiber_types.proofs.RecordsLaws.{hash-len-small}
 use Rattle.fiber_witness.specs.declared.witness.WitnessRead.the-variants.{Whole, Refused}
 use Rattle.fiber_witness.specs.Witness.{recordLen, unlockLen, places, readUnlocks, readTlcs, readWitness}
-use Rattle.fiber_witness.specs.inner.Strided.{sharePlace}
+use Rattle.fiber_witness.specs.inner.Strided.{behindTlcs}
 use Rattle.fiber_witness.proofs.WitnessLaws.{unlock-long, places-cons, cut-passed, cut-short, Reading, reading-start, reading-end, share-small, whole-cut, shares-cut, shares-whole, witness-short, witness-tlcs}
 use Rattle.witness_reader.specs.Reader.{taken, left}
 use Rattle.witness_reader.specs.inner.Front.{tlcsLen, preimageLen, Front}
@@ -98,15 +98,15 @@ unlock-taken s part middle rest r n first second e₁ e₂ e₃ e₄ e₅ e₆ e
 
 -- ---- the loop over the unlocks: k of them are before place at, where what is left begins
 
-pub record Rest (w s : List ℕ) (n share k : ℕ) : Type 0 where
+pub record Rest (w s : List ℕ) (n sharePlace k : ℕ) : Type 0 where
   pub at : ℕ
   pub is : s ≡ drop at w
-  pub reading : Reading w n share at k
+  pub reading : Reading w n sharePlace at k
 
-pub rest-start : (w s : List ℕ) (n share : ℕ) → share + 72 ≤ length w → s ≡ drop (share + 72) w → Rest w s n share 0
-rest-start w s n share h e = record { at = share + 72; is = e; reading = reading-start w n share h }
+pub rest-start : (w s : List ℕ) (n sharePlace : ℕ) → sharePlace + 72 ≤ length w → s ≡ drop (sharePlace + 72) w → Rest w s n sharePlace 0
+rest-start w s n sharePlace h e = record { at = sharePlace + 72; is = e; reading = reading-start w n sharePlace h }
 
-module _ (w s : List ℕ) (n share k : ℕ) (c : Rest w s n share k) where
+module _ (w s : List ℕ) (n sharePlace k : ℕ) (c : Rest w s n sharePlace k) where
   -- where what is left begins
   pub rest-at : c .at + length s ≡ length w
   rest-at = omega (arith, ap length (c .is) ∙ length-drop (c .at) w, c .reading .room)
@@ -115,8 +115,8 @@ module _ (w s : List ℕ) (n share k : ℕ) (c : Rest w s n share k) where
   rest-few = omega (arith, rest-at, c .reading .few)
 
   -- nothing is left
-  pub rest-end : length s ≡ 0 → Whole n k share (share + 72) ≡ readUnlocks w n share
-  rest-end e = reading-end w n share (c .at) k (c .reading) (omega (arith, rest-at))
+  pub rest-end : length s ≡ 0 → Whole n k sharePlace (sharePlace + 72) ≡ readUnlocks w n sharePlace
+  rest-end e = reading-end w n sharePlace (c .at) k (c .reading) (omega (arith, rest-at))
 
   -- the unlock is the one at that place
   rest-unlock : unlockLen s 0 ≡ unlockLen w (c .at)
@@ -133,7 +133,7 @@ module _ (w s : List ℕ) (n share k : ℕ) (c : Rest w s n share k) where
         (λ h. h)
         (either (unlockLen s 0) (length s))
 
-    pub rest-cut : length t ≡ length s → Refused 4 (length w - length s) ≡ readUnlocks w n share
+    pub rest-cut : length t ≡ length s → Refused 4 (length w - length s) ≡ readUnlocks w n sharePlace
     rest-cut f =
         let p : length w - length s ≡ c .at = omega (arith, rest-at) in
         let b : c .at < length w = omega (arith, rest-at) in
@@ -143,7 +143,7 @@ module _ (w s : List ℕ) (n share k : ℕ) (c : Rest w s n share k) where
     pub rest-less : (length t ≡ length s → ⊥) → length t < length s
     rest-less f = omega (arith, ap length e ∙ left-length s (unlockLen s 0) (rest-whole f), unlock-long s 0, rest-whole f)
 
-    pub rest-more : (length t ≡ length s → ⊥) → Rest w t n share (k + 1)
+    pub rest-more : (length t ≡ length s → ⊥) → Rest w t n sharePlace (k + 1)
     rest-more f =
         let u = unlockLen w (c .at) in
         let h = rest-whole f in
@@ -203,31 +203,31 @@ module _ (h : ℕ) (w : List ℕ) (counted listed shared : Bool) (counts rest : 
       len-n : tlcsLen h counts ≡ n * recordLen h
       len-n = sym (len-known h counts n k e)
 
-      behind-tlcs : length (left (left w 2) (tlcsLen h counts)) + sharePlace h n ≡ length w
+      behind-tlcs : length (left (left w 2) (tlcsLen h counts)) + behindTlcs h n ≡ length w
       behind-tlcs = omega (arith, left-length (left w 2) (tlcsLen h counts) len-there, left-length w 2 front-two, len-n, len-there, front-two)
 
-      within-tlcs : sharePlace h n ≤ length w
+      within-tlcs : behindTlcs h n ≤ length w
       within-tlcs = omega (arith, behind-tlcs)
 
       to-witness : readTlcs n h w n 2 ≡ readWitness h w
       to-witness = ap (λ (m : ℕ). readTlcs m h w m 2) (e ∙ count-is) ∙ witness-tlcs h w k front-two
 
-      pub front-unshared : shared ≡ false → Refused 3 (sharePlace h n) ≡ readWitness h w
+      pub front-unshared : shared ≡ false → Refused 3 (behindTlcs h n) ≡ readWitness h w
       front-unshared g = shares-cut h w n within-tlcs (omega (arith, behind-tlcs, leb-false 72 (length (left (left w 2) (tlcsLen h counts))) (sym (f .shared-is) ∙ g))) ∙ to-witness
 
       module _ (g : shared ≡ true) where
         shares-there : 72 ≤ length (left (left w 2) (tlcsLen h counts))
         shares-there = leb-true 72 (length (left (left w 2) (tlcsLen h counts))) (sym (f .shared-is) ∙ g)
 
-        pub front-room : sharePlace h n + 72 ≤ length w
+        pub front-room : behindTlcs h n + 72 ≤ length w
         front-room = omega (arith, behind-tlcs, shares-there)
 
-        pub front-rest : rest ≡ drop (sharePlace h n + 72) w
+        pub front-rest : rest ≡ drop (behindTlcs h n + 72) w
         front-rest = f .rest-is ∙ (left-drop (left (left w 2) (tlcsLen h counts)) 72 shares-there ∙ (ap (drop 72) (left-drop (left w 2) (tlcsLen h counts) len-there
             ∙ (ap (drop (tlcsLen h counts)) (left-drop w 2 front-two) ∙ (drop-drop (tlcsLen h counts) 2 w ∙ ap (λ (m : ℕ). drop (2 + m) w) len-n)))
-            ∙ drop-drop 72 (sharePlace h n) w))
+            ∙ drop-drop 72 (behindTlcs h n) w))
 
-        pub front-whole : readUnlocks w n (sharePlace h n) ≡ readWitness h w
+        pub front-whole : readUnlocks w n (behindTlcs h n) ≡ readWitness h w
         front-whole = shares-whole h w n within-tlcs front-room ∙ to-witness
 
 -- the takes, each known by what it says

@@ -123,12 +123,12 @@ fn unlock_left(s: &[u8]) -> &[u8]
 }
 
 // The unlocks to the end, of a witness with n TLCs. Each is at the place where what is left begins.
-fn read_unlocks<'a>(w: &'a [u8], n: usize, share: usize, rest: &'a [u8]) -> WitnessRead
-    requires { ⌜ (share + 72 ≤ length (now w)) × (now rest ≡ drop (share + 72) (now w)) ⌝ }
-    ensures { λ r. ⌜ r ≡ readUnlocks (now (w .entry)) n share ⌝ }
+fn read_unlocks<'a>(w: &'a [u8], n: usize, share_place: usize, rest: &'a [u8]) -> WitnessRead
+    requires { ⌜ («share_place» + 72 ≤ length (now w)) × (now rest ≡ drop («share_place» + 72) (now w)) ⌝ }
+    ensures { λ r. ⌜ r ≡ readUnlocks (now (w .entry)) n «share_place» ⌝ }
 {
     let mut left = rest;
-    let mut unlocks = 0;
+    let mut unlock_count = 0;
     while !ended(left) {
         let next = unlock_left(left);
         if next.len() == left.len() {
@@ -138,13 +138,13 @@ fn read_unlocks<'a>(w: &'a [u8], n: usize, share: usize, rest: &'a [u8]) -> Witn
             };
         }
         left = next;
-        unlocks += 1;
+        unlock_count += 1;
     }
     WitnessRead::Whole {
         n,
-        unlock_count: unlocks,
-        share_place: share,
-        first_unlock: share + SHARES,
+        unlock_count,
+        share_place,
+        first_unlock: share_place + SHARES,
     }
 }
 
@@ -202,14 +202,14 @@ fn read_front<'a>(
         };
     }
     let n = count_in(counts);
-    let share = 2 + n * size;
+    let share_place = 2 + n * size;
     if !shared {
         return WitnessRead::Refused {
             number: 3,
-            place: share,
+            place: share_place,
         };
     }
-    read_unlocks(w, n, share, rest)
+    read_unlocks(w, n, share_place, rest)
 }
 
 // Reads a witness of a channel whose hashes have h bytes: two counts, n TLCs and two shares, one taken behind the other, then the unlocks.

@@ -28,7 +28,7 @@ pub const NOTHING: Row = row(22, "nothing qualifies", InRust::Waits);
 
 type Answer<V> = Result<V, (Row, Place)>;
 
-fn said<V>(answer: Answer<V>) -> Document<V> {
+fn document<V>(answer: Answer<V>) -> Document<V> {
     match answer {
         Ok(value) => Document::Value(value),
         Err((row, place)) => Document::Row(row, place),
@@ -172,7 +172,7 @@ pub struct Read {
 }
 
 pub fn read(h: u64, witness: &[u8]) -> Document<Read> {
-    said(hash_length(h).and_then(|h| parts(h, witness)).map(|parts| Read {
+    document(hash_length(h).and_then(|h| parts(h, witness)).map(|parts| Read {
         n: parts.state.tlcs.len(),
         unlocks: parts.unlocks.len(),
         shares: parts.shares,
@@ -225,7 +225,7 @@ fn fits(bytes: Vec<u8>, output: usize) -> Answer<Vec<u8>> {
 /// The new state. `output` is the length of the output buffer.
 pub fn update(h: u64, witness: &[u8], output: usize) -> Document<Vec<u8>> {
     let state = hash_length(h).and_then(|h| parts(h, witness)).and_then(updated);
-    said(state.and_then(|state| fits(state.written(), output)))
+    document(state.and_then(|state| fits(state.written(), output)))
 }
 
 // ---- What the host lends ----
@@ -269,7 +269,7 @@ impl Data {
     }
 
     /// Row 14.
-    fn lent_well(&self) -> Answer<()> {
+    fn valid_data(&self) -> Answer<()> {
         unless(self.tlcs.len() % 124 == 0, NOT_WHOLE)?;
         unless(self.list().iter().all(|tlc| tlc.received <= 1 && tlc.algorithm <= 1), ABOVE_1)?;
         unless(self.local_key.len() == 33 && self.remote_key.len() == 33, KEY_LENGTH)
@@ -283,9 +283,9 @@ pub struct Tracked<'a> {
     pub record: &'a [u8],
 }
 
-/// All that the choice looks at.
+/// What a host asks a choice with.
 #[derive(Clone)]
-pub struct Asked {
+pub struct Request {
     pub h: u64,
     pub for_remote: bool,
     pub args: Vec<u8>,
@@ -302,7 +302,7 @@ pub struct Asked {
     pub output: usize,
 }
 
-impl Asked {
+impl Request {
     pub fn tracked(&self) -> Vec<Tracked<'_>> {
         let entries = self.tracked.chunks_exact(98 + self.h as usize);
         entries
@@ -311,9 +311,9 @@ impl Asked {
     }
 
     /// Row 14, which looks at all that is lent, in a first and in a later settlement alike.
-    fn lent_well(&self) -> Answer<()> {
+    fn valid_request(&self) -> Answer<()> {
         let h = hash_length(self.h)?;
-        self.data.lent_well()?;
+        self.data.valid_data()?;
         unless(self.tracked.len() % (98 + h) == 0 && self.preimages.len() % 64 == 0, NOT_WHOLE)?;
         unless(self.tracked().iter().all(|t| t.algorithm <= 1), ABOVE_1)?;
         unless(within_bits(self.header) && within_bits(self.current), FIELD_BEYOND_BITS)
@@ -350,18 +350,18 @@ pub fn tlc_witness(h: u64, for_remote: bool, entry: &[u8], output: usize) -> Doc
         unless(tlc.received <= 1 && tlc.algorithm <= 1, ABOVE_1)?;
         fits(first_record(h, for_remote, &tlc), output)
     };
-    said(answer())
+    document(answer())
 }
 
 /// The first state, whole.
 pub fn first(h: u64, for_remote: bool, data: &Data, output: usize) -> Document<Vec<u8>> {
     let answer = || {
         let h = hash_length(h)?;
-        data.lent_well()?;
+        data.valid_data()?;
         unless(data.list().len() <= 255, ABOVE_255)?;
         fits(first_state(h, for_remote, data).written(), output)
     };
-    said(answer())
+    document(answer())
 }
 
 // ---- Module 8: the choice ----
@@ -390,8 +390,8 @@ impl Chosen {
     }
 }
 
-/// What is chosen: our share, or a TLC of the state with its settlement TLC, by a preimage or by timeout.
-enum Pick {
+/// What is decided: our share, or a TLC of the state with its settlement TLC, by a preimage or by timeout.
+enum Decision {
     Share,
     Tlc { place: usize, key: usize, preimage: Option<Preimage>, delay: Option<Epoch> },
 }
@@ -425,61 +425,61 @@ fn timeout_kind(offered: bool, for_remote: bool) -> bool {
     offered == for_remote
 }
 
-fn later(asked: &Asked, state: &State) -> Answer<Pick> {
-    let h = asked.h as usize;
+fn later(request: &Request, state: &State) -> Answer<Decision> {
+    let h = request.h as usize;
     unless(state.tlcs.len() <= 254, ABOVE_254)?;
-    let tracked = asked.tracked();
+    let tracked = request.tracked();
     unless(state.tlcs.iter().eq(tracked.iter().map(|t| t.record)), LIST_DIFFERS)?;
     let (ours, other) =
-        if asked.for_remote { (&state.local, &state.remote) } else { (&state.remote, &state.local) };
-    unless(ours.key == hash_of_key(&asked.data.local_key), NOT_OUR_SHARE)?;
+        if request.for_remote { (&state.local, &state.remote) } else { (&state.remote, &state.local) };
+    unless(ours.key == hash_of_key(&request.data.local_key), NOT_OUR_SHARE)?;
     if other.key.iter().all(|byte| *byte == 0) {
-        return Ok(Pick::Share);
+        return Ok(Decision::Share);
     }
     let settlement: Vec<(&[u8], Vec<u8>)> =
-        asked.data.list().iter().map(|tlc| (tlc.hash, hash_of_key(tlc.local))).collect();
+        request.data.list().iter().map(|tlc| (tlc.hash, hash_of_key(tlc.local))).collect();
     let mut pending = state.tlcs.len();
     for (place, bytes) in state.tlcs.iter().enumerate() {
         let tlc = record(h, bytes);
         let Document::Value(Some(expiry)) = absolute_expiry(tlc.expiry) else {
             continue;
         };
-        let our_hash = if asked.for_remote { tlc.local } else { tlc.remote };
+        let our_hash = if request.for_remote { tlc.local } else { tlc.remote };
         let key = settlement.iter().position(|(hash, key)| hash[..h] == *tlc.hash && key == our_hash);
         let Some(key) = key else {
             continue;
         };
-        let expired = asked.time > expiry;
-        if timeout_kind(tlc.offered, asked.for_remote) {
+        let expired = request.time > expiry;
+        if timeout_kind(tlc.offered, request.for_remote) {
             if expired {
-                return Ok(Pick::Tlc { place, key, preimage: None, delay: None });
+                return Ok(Decision::Tlc { place, key, preimage: None, delay: None });
             }
-        } else if let Some(preimage) = counting_preimage(&asked.preimages, &tracked[place]) {
-            return Ok(Pick::Tlc { place, key, preimage: Some(preimage), delay: None });
+        } else if let Some(preimage) = counting_preimage(&request.preimages, &tracked[place]) {
+            return Ok(Decision::Tlc { place, key, preimage: Some(preimage), delay: None });
         } else if expired {
             pending -= 1;
         }
     }
     unless(pending == 0, NOTHING)?;
-    Ok(Pick::Share)
+    Ok(Decision::Share)
 }
 
-fn first_choice(asked: &Asked, state: &State, full: Epoch) -> Answer<Pick> {
-    let tracked = asked.tracked();
+fn first_choice(request: &Request, state: &State, full: Epoch) -> Answer<Decision> {
+    let tracked = request.tracked();
     unless(state.tlcs.iter().eq(tracked.iter().map(|t| t.record)), LIST_DIFFERS)?;
     let scaled = |numerator| match mul(full, numerator, 3) {
         Document::Value(delay) => Ok(delay),
         Document::Row(row, place) => Err((row, place)),
     };
-    let due = |delay| is_due(asked.header, delay, asked.current) == Document::Value(true);
+    let due = |delay| is_due(request.header, delay, request.current) == Document::Value(true);
     let full_due = due(full);
     let mut pending = state.tlcs.len();
-    for (place, tlc) in asked.data.list().iter().enumerate() {
-        let expired = asked.time > tlc.expiry;
-        if timeout_kind(tlc.received == 0, asked.for_remote) {
+    for (place, tlc) in request.data.list().iter().enumerate() {
+        let expired = request.time > tlc.expiry;
+        if timeout_kind(tlc.received == 0, request.for_remote) {
             let delay = scaled(2)?;
             if due(delay) && expired {
-                return Ok(Pick::Tlc { place, key: place, preimage: None, delay: Some(delay) });
+                return Ok(Decision::Tlc { place, key: place, preimage: None, delay: Some(delay) });
             }
             continue;
         }
@@ -487,72 +487,72 @@ fn first_choice(asked: &Asked, state: &State, full: Epoch) -> Answer<Pick> {
         if !due(delay) {
             continue;
         }
-        if let Some(preimage) = counting_preimage(&asked.preimages, &tracked[place]) {
-            return Ok(Pick::Tlc { place, key: place, preimage: Some(preimage), delay: Some(delay) });
+        if let Some(preimage) = counting_preimage(&request.preimages, &tracked[place]) {
+            return Ok(Decision::Tlc { place, key: place, preimage: Some(preimage), delay: Some(delay) });
         }
         if full_due && expired {
             pending -= 1;
         }
     }
     unless(pending == 0 && full_due, NOTHING)?;
-    Ok(Pick::Share)
+    Ok(Decision::Share)
 }
 
-fn handed_out(asked: &Asked, state: State, pick: Pick, full: Epoch) -> Chosen {
+fn handed_out(request: &Request, state: State, decision: Decision, full: Epoch) -> Chosen {
     let before = state.written();
     let mut after = state;
     let mut part = (0, 0);
-    let (byte, preimage, amount, key, delay) = match pick {
-        Pick::Share => {
+    let (byte, preimage, amount, key, delay) = match decision {
+        Decision::Share => {
             let (byte, share) =
-                if asked.for_remote { (LOCAL, &mut after.local) } else { (REMOTE, &mut after.remote) };
+                if request.for_remote { (LOCAL, &mut after.local) } else { (REMOTE, &mut after.remote) };
             let amount = share.amount;
             *share = Share { key: vec![0; 20], amount: 0 };
-            (byte, None, amount, None, asked.witness.is_none().then_some(full))
+            (byte, None, amount, None, request.witness.is_none().then_some(full))
         }
-        Pick::Tlc { place, key, preimage, delay } => {
+        Decision::Tlc { place, key, preimage, delay } => {
             let bytes = after.tlcs.remove(place);
             part = (after.places.remove(place), bytes.len());
-            (place as u8, preimage, record(asked.h as usize, &bytes).amount, Some(key), delay)
+            (place as u8, preimage, record(request.h as usize, &bytes).amount, Some(key), delay)
         }
     };
     let mut unlock = vec![byte, u8::from(preimage.is_some())];
     unlock.extend([0; 65]);
     let pair = preimage.as_ref().map_or(0, |preimage| preimage.pair);
     unlock.extend(preimage.map_or(vec![], |preimage| preimage.bytes));
-    let mut new_args = asked.args[..36].to_vec();
+    let mut new_args = request.args[..36].to_vec();
     new_args.extend(&ckb_hash(&after.written())[..20]);
     new_args.push(1);
-    new_args.extend(asked.args.iter().skip(57));
+    new_args.extend(request.args.iter().skip(57));
     Chosen { unlock, state: before, new_args, amount, key, delay, record: part, pair }
 }
 
-fn chosen(asked: &Asked) -> Answer<Chosen> {
-    asked.lent_well()?;
-    let full = delay_of(&asked.args)?;
-    let h = asked.h as usize;
-    let (state, pick) = match &asked.witness {
+fn chosen(request: &Request) -> Answer<Chosen> {
+    request.valid_request()?;
+    let full = delay_of(&request.args)?;
+    let h = request.h as usize;
+    let (state, decision) = match &request.witness {
         Some(witness) => {
             let state = updated(parts(h, witness)?)?;
-            let pick = later(asked, &state)?;
-            (state, pick)
+            let decision = later(request, &state)?;
+            (state, decision)
         }
         None => {
-            let lengths = [asked.header, asked.current, full].map(|epoch| epoch.length);
+            let lengths = [request.header, request.current, full].map(|epoch| epoch.length);
             unless(!lengths.contains(&0), LENGTH_ZERO)?;
-            unless(asked.data.list().len() <= 254, ABOVE_254)?;
-            let state = first_state(h, asked.for_remote, &asked.data);
-            let pick = first_choice(asked, &state, full)?;
-            (state, pick)
+            unless(request.data.list().len() <= 254, ABOVE_254)?;
+            let state = first_state(h, request.for_remote, &request.data);
+            let decision = first_choice(request, &state, full)?;
+            (state, decision)
         }
     };
-    let chosen = handed_out(asked, state, pick, full);
-    if chosen.output() > asked.output {
+    let chosen = handed_out(request, state, decision, full);
+    if chosen.output() > request.output {
         return Err((OUTPUT_SHORT, chosen.output() as u64));
     }
     Ok(chosen)
 }
 
-pub fn choice(asked: &Asked) -> Document<Chosen> {
-    said(chosen(asked))
+pub fn choice(request: &Request) -> Document<Chosen> {
+    document(chosen(request))
 }

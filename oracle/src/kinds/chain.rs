@@ -35,7 +35,7 @@ pub struct Input {
 
 /// What a call answers.
 #[derive(Clone, Debug, PartialEq, Eq)]
-enum Said {
+enum Answer {
     /// The length of the state left.
     Left(usize),
     Refused {
@@ -46,10 +46,10 @@ enum Said {
     Alone,
 }
 
-/// Said and done in a run: after each call its answer and the state kept, at the end the sums.
+/// A whole run: after each call its answer and the state kept, at the end the sums.
 #[derive(Clone, Debug, PartialEq, Eq)]
 pub struct Run {
-    calls: Vec<(Said, Vec<u8>)>,
+    calls: Vec<(Answer, Vec<u8>)>,
     /// How often each TLC of the first state was paid.
     paid_tlcs: Vec<usize>,
     /// Every payment of the remote and of the local share, zeros among them.
@@ -127,7 +127,7 @@ impl Book {
     }
 
     /// Who is paid by the unlocks, in order, or the row that turns them down. `from` is the place of the first.
-    fn asked(&self, behind: &[u8], from: usize) -> Result<Vec<Paid>, Said> {
+    fn payees(&self, behind: &[u8], from: usize) -> Result<Vec<Paid>, Answer> {
         // All are read before one is judged.
         let mut unlocks = vec![];
         let mut rest = behind;
@@ -135,50 +135,50 @@ impl Book {
             let place = (from + behind.len() - rest.len()) as u64;
             let wanted = if rest.get(1) == Some(&1) { 67 + 32 } else { 67 };
             if rest.len() < wanted {
-                return Err(Said::Refused { number: 4, place });
+                return Err(Answer::Refused { number: 4, place });
             }
             unlocks.push((rest[0], place));
             rest = &rest[wanted..];
         }
         // Places mean the list before any removal: the one before this call.
         let before = self.standing();
-        let mut asked = vec![];
+        let mut payees = vec![];
         for (byte, place) in unlocks {
             let one = match byte {
                 REMOTE => Paid::Share(0),
                 LOCAL => Paid::Share(1),
                 _ => match before.get(usize::from(byte)) {
-                    None => return Err(Said::Refused { number: 5, place }),
+                    None => return Err(Answer::Refused { number: 5, place }),
                     Some(first) => Paid::Tlc(*first),
                 },
             };
-            if matches!(one, Paid::Tlc(_)) && asked.contains(&one) {
-                return Err(Said::Refused { number: 6, place });
+            if matches!(one, Paid::Tlc(_)) && payees.contains(&one) {
+                return Err(Answer::Refused { number: 6, place });
             }
-            asked.push(one);
+            payees.push(one);
         }
-        Ok(asked)
+        Ok(payees)
     }
 
     /// A call: what it answers. One that is turned down changes nothing.
-    fn call(&mut self, call: &Call) -> Said {
+    fn call(&mut self, call: &Call) -> Answer {
         if call.answer < 24 {
-            return Said::Alone;
+            return Answer::Alone;
         }
         if call.h != self.h as u64 {
-            return Said::Refused { number: 14, place: 0 };
+            return Answer::Refused { number: 14, place: 0 };
         }
         let standing = self.standing().len();
-        let asked = match self.asked(&call.behind, 1 + 73 + standing * (65 + self.h)) {
-            Ok(asked) => asked,
-            Err(said) => return said,
+        let payees = match self.payees(&call.behind, 1 + 73 + standing * (65 + self.h)) {
+            Ok(payees) => payees,
+            Err(refusal) => return refusal,
         };
-        let settled = asked.iter().filter(|one| matches!(one, Paid::Tlc(_))).count();
+        let settled = payees.iter().filter(|one| matches!(one, Paid::Tlc(_))).count();
         let length = 73 + (standing - settled) * (65 + self.h);
         if call.output < length {
-            return Said::Refused { number: 13, place: length as u64 };
+            return Answer::Refused { number: 13, place: length as u64 };
         }
-        for one in asked {
+        for one in payees {
             let payment = match one {
                 Paid::Tlc(first) => {
                     self.tlcs[first].stands = false;
@@ -189,7 +189,7 @@ impl Book {
             self.paid += payment;
             self.payments.push((one, payment));
         }
-        Said::Left(length)
+        Answer::Left(length)
     }
 
     fn share_payments(&self, side: usize) -> Vec<u128> {
@@ -216,7 +216,7 @@ fn book(i: &Input) -> Run {
 /// leaves. What was paid is read off those states: the amount at the place unlocked in the state kept before.
 fn followed(
     i: &Input,
-    mut ask: impl FnMut(&Call, &[u8]) -> Result<(Said, Vec<u8>), String>,
+    mut ask: impl FnMut(&Call, &[u8]) -> Result<(Answer, Vec<u8>), String>,
 ) -> Result<Run, String> {
     let (size, n) = (65 + i.h, usize::from(i.state[0]));
     let mut kept = i.state.clone();
@@ -226,10 +226,10 @@ fn followed(
     let mut calls = vec![];
     for call in &i.calls {
         let witness = [&[call.count], &kept[..], &call.behind].concat();
-        let (said, left) = ask(call, &witness)?;
-        if let Said::Left(length) = said {
+        let (answer, left) = ask(call, &witness)?;
+        if let Answer::Left(length) = answer {
             if length != left.len() {
-                return Err(format!("a state of {} bytes, said to have {length}", left.len()));
+                return Err(format!("a state of {} bytes, answered to have {length}", left.len()));
             }
             let (mut gone, mut emptied) = (vec![false; firsts.len()], [false; 2]);
             let mut at = 0;
@@ -261,7 +261,7 @@ fn followed(
             }
             kept = left;
         }
-        calls.push((said, kept.clone()));
+        calls.push((answer, kept.clone()));
     }
     let tlcs = (0..firsts.len()).map(|place| amount(&kept[1 + place * size..][1..17]));
     let shares = [36, 0].map(|back| amount(&kept[kept.len() - back - 16..][..16]));
@@ -269,14 +269,13 @@ fn followed(
     Ok(Run { calls, paid_tlcs, paid_shares, paid, standing })
 }
 
-/// The port over C, with buffers of the lengths said.
+/// The port over C, with buffers of the call's lengths.
 fn by_port(i: &Input, random: &mut Random) -> Result<Run, String> {
-    let update = port::UPDATE.expect("checked by the caller");
     followed(i, |call, witness| {
-        port::one_update(random, update, call.h, witness, call.output, call.answer).map(|reply| match reply {
-            None => (Said::Alone, vec![]),
-            Some(Reply::Value(state)) => (Said::Left(state.len()), state),
-            Some(Reply::Refused { number, place }) => (Said::Refused { number, place }, vec![]),
+        port::one_update(random, call.h, witness, call.output, call.answer).map(|reply| match reply {
+            None => (Answer::Alone, vec![]),
+            Some(Reply::Value(state)) => (Answer::Left(state.len()), state),
+            Some(Reply::Refused { number, place }) => (Answer::Refused { number, place }, vec![]),
         })
     })
 }
@@ -286,16 +285,16 @@ fn by_port(i: &Input, random: &mut Random) -> Result<Run, String> {
 fn by_rust(i: &Input) -> Result<Run, String> {
     let mut book = Book::open(i.h, &i.state);
     followed(i, |call, witness| {
-        let said = book.call(call);
-        if matches!(said, Said::Alone | Said::Refused { number: 6 | 13 | 14, .. }) {
-            return Ok((said, vec![]));
+        let answer = book.call(call);
+        if matches!(answer, Answer::Alone | Answer::Refused { number: 6 | 13 | 14, .. }) {
+            return Ok((answer, vec![]));
         }
-        match (calls::update(i.h as u8, witness), said) {
-            (calls::Update::State(state), _) => Ok((Said::Left(state.len()), state)),
-            (calls::Update::Unread | calls::Update::Refused, said @ Said::Refused { .. }) => {
-                Ok((said, vec![]))
+        match (calls::update(i.h as u8, witness), answer) {
+            (calls::Update::State(state), _) => Ok((Answer::Left(state.len()), state)),
+            (calls::Update::Unread | calls::Update::Refused, answer @ Answer::Refused { .. }) => {
+                Ok((answer, vec![]))
             }
-            (other, _) => Err(format!("the Rust says {other:?}")),
+            (other, _) => Err(format!("the Rust answers {other:?}")),
         }
     })
 }
@@ -418,19 +417,19 @@ fn plain_run(h: usize, n: usize, lists: &[Vec<u8>]) -> Input {
 
 // ---- For the self test ----
 
-/// What is said in the first runs, by number; 0 for a state left.
-pub fn said(runs: u64) -> BTreeSet<String> {
+/// What is answered in the first runs, by number; 0 for a state left.
+pub fn answers(runs: u64) -> BTreeSet<String> {
     let run = |case| book(&Chain::random(&mut Random::of(1, Chain::NAME, case)));
-    let told = |said: &Said| match said {
-        Said::Left(_) => "0".to_string(),
-        Said::Refused { number, .. } => number.to_string(),
-        Said::Alone => "14 alone".to_string(),
+    let number = |answer: &Answer| match answer {
+        Answer::Left(_) => "0".to_string(),
+        Answer::Refused { number, .. } => number.to_string(),
+        Answer::Alone => "14 alone".to_string(),
     };
-    (0..runs).flat_map(|case| run(case).calls).map(|call| told(&call.0)).collect()
+    (0..runs).flat_map(|case| run(case).calls).map(|call| number(&call.0)).collect()
 }
 
 /// A side that answers as document 01 says, but for one fault; None: none.
-fn with_fault(fault: Option<&str>, h: usize, call: &Call, witness: &[u8]) -> (Said, Vec<u8>) {
+fn with_fault(fault: Option<&str>, h: usize, call: &Call, witness: &[u8]) -> (Answer, Vec<u8>) {
     let (size, n) = (65 + h, usize::from(witness[1]));
     let behind = witness.len() - call.behind.len();
     let mut witness = witness.to_vec();
@@ -441,18 +440,18 @@ fn with_fault(fault: Option<&str>, h: usize, call: &Call, witness: &[u8]) -> (Sa
             place_of_share = 254
         }
         Some("13 comes before 5") if call.output < 73 && call.answer >= 24 && call.h == h as u64 => {
-            return (Said::Refused { number: 13, place: 73 }, vec![])
+            return (Answer::Refused { number: 13, place: 73 }, vec![])
         }
         _ => {}
     }
     if call.answer < 24 && fault != Some("a short answer buffer is not looked at") {
-        return (Said::Alone, vec![]);
+        return (Answer::Alone, vec![]);
     }
     let mut state = match settlement::update(call.h, &witness, call.output) {
         Document::Value(state) => state,
         Document::Row(row, place) => {
             let from_state = fault == Some("places count from the state") && place > 0;
-            return (Said::Refused { number: row.number, place: place - u64::from(from_state) }, vec![]);
+            return (Answer::Refused { number: row.number, place: place - u64::from(from_state) }, vec![]);
         }
     };
     let shares = state.len() - 72;
@@ -469,7 +468,7 @@ fn with_fault(fault: Option<&str>, h: usize, call: &Call, witness: &[u8]) -> (Sa
         }
         _ => {}
     }
-    (Said::Left(state.len()), state)
+    (Answer::Left(state.len()), state)
 }
 
 /// Faults that the runs do not notice; without a fault there may be nothing to notice.
@@ -506,7 +505,7 @@ impl Kind for Chain {
 
     const NAME: &'static str = "chain";
     const ABOUT: &'static str = "up to 50 updates of one channel, against the book";
-    const EXPORT: Option<(&'static str, bool)> = Some(("fiber_settlement_update", port::UPDATE.is_some()));
+    const EXPORT: &'static str = "fiber_settlement_update";
     const DUMP_LINES: usize = 0;
 
     fn edges() -> Vec<Input> {
@@ -622,7 +621,7 @@ impl Kind for Chain {
 
     fn class(_: &Input, run: &Run) -> &'static str {
         let settled: usize = run.paid_tlcs.iter().sum();
-        let refused = run.calls.iter().any(|call| !matches!(call.0, Said::Left(_)));
+        let refused = run.calls.iter().any(|call| !matches!(call.0, Answer::Left(_)));
         match (run.paid_tlcs.len(), settled, refused) {
             (253.., ..) => "n 253 to 255",
             (_, 0, false) => "no TLC settled, none turned down",
@@ -639,12 +638,13 @@ impl Kind for Chain {
     }
 
     fn show_value(run: &Run) -> String {
-        let said = |said: &Said| match said {
-            Said::Left(length) => format!("left {length}"),
-            Said::Refused { number, place } => format!("refused {number} at {place}"),
-            Said::Alone => "14 alone".to_string(),
+        let shown = |answer: &Answer| match answer {
+            Answer::Left(length) => format!("left {length}"),
+            Answer::Refused { number, place } => format!("refused {number} at {place}"),
+            Answer::Alone => "14 alone".to_string(),
         };
-        let calls: Vec<String> = run.calls.iter().map(|c| format!("{}, {}", said(&c.0), hex(&c.1))).collect();
+        let calls: Vec<String> =
+            run.calls.iter().map(|c| format!("{}, {}", shown(&c.0), hex(&c.1))).collect();
         let [remote, local] = &run.paid_shares;
         format!(
             "{}; TLCs paid {:?}, remote {remote:?}, local {local:?}; paid {}, standing {}",

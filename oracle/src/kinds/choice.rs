@@ -1,9 +1,9 @@
 //! `choice`: what is unlocked next, in a first and in a later settlement. Document 01, module 8 and "The choice".
 
 use super::first::case;
-use super::settlement::{consistent, disturb, lent, since_of, Tlc, AMPLE, TLC};
+use super::settlement::{consistent, data_of, disturb, since_of, Tlc, AMPLE, TLC};
 use super::{epoch, hex, Kind};
-use crate::document::settlement::{self, Asked, Chosen};
+use crate::document::settlement::{self, Chosen, Request};
 use crate::document::{Document, Epoch};
 use crate::port::{self, halves, Called};
 use crate::random::Random;
@@ -12,10 +12,10 @@ use crate::reference::calls::{self, Rust};
 pub struct Choice;
 
 /// A first settlement with delay (3, 0/1) at time 6000, of TLCs that are lent in order.
-fn plain(for_remote: bool, tlcs: &[Tlc], now: Epoch) -> Asked {
+fn plain(for_remote: bool, tlcs: &[Tlc], now: Epoch) -> Request {
     let mut args: Vec<u8> = (0..57).collect();
     args[20..28].copy_from_slice(&since_of(epoch(3, 0, 1)).to_le_bytes());
-    let data = lent(tlcs, [4; 33], [5; 33]);
+    let data = data_of(tlcs, [4; 33], [5; 33]);
     let mut tracked = vec![];
     let Document::Value(state) = settlement::first(20, for_remote, &data, AMPLE) else {
         unreachable!("few TLCs")
@@ -25,7 +25,7 @@ fn plain(for_remote: bool, tlcs: &[Tlc], now: Epoch) -> Asked {
         tracked.push(tlc.algorithm);
         tracked.extend(record);
     }
-    Asked {
+    Request {
         h: 20,
         for_remote,
         args,
@@ -41,11 +41,12 @@ fn plain(for_remote: bool, tlcs: &[Tlc], now: Epoch) -> Asked {
 }
 
 /// The same as a later settlement, without unlocks.
-fn as_later(asked: &Asked) -> Asked {
-    let Document::Value(state) = settlement::first(asked.h, asked.for_remote, &asked.data, AMPLE) else {
+fn as_later(request: &Request) -> Request {
+    let Document::Value(state) = settlement::first(request.h, request.for_remote, &request.data, AMPLE)
+    else {
         unreachable!("few TLCs")
     };
-    Asked { witness: Some([vec![0], state].concat()), ..asked.clone() }
+    Request { witness: Some([vec![0], state].concat()), ..request.clone() }
 }
 
 fn tlc(received: bool, algorithm: u8, expiry: u64, tag: u8) -> Tlc {
@@ -61,18 +62,18 @@ fn tlc(received: bool, algorithm: u8, expiry: u64, tag: u8) -> Tlc {
 }
 
 impl Kind for Choice {
-    type Input = Asked;
+    type Input = Request;
     type Value = Chosen;
 
     const NAME: &'static str = "choice";
     const ABOUT: &'static str = "the next unlock";
-    const EXPORT: Option<(&'static str, bool)> = Some(("fiber_settlement_choose", port::CHOOSE.is_some()));
+    const EXPORT: &'static str = "fiber_settlement_choose";
     const DUMP_LINES: usize = 140;
     const DUMP_ROWS: bool = true;
     const DUMP_ALIKE: usize = 8;
     const DUMP_NAME: &'static str = "pick";
 
-    fn edges() -> Vec<Asked> {
+    fn edges() -> Vec<Request> {
         let mut edges = vec![];
         let nows = [
             epoch(10, 0, 1),
@@ -92,10 +93,10 @@ impl Kind for Choice {
                         for now in nows {
                             let one = tlc(received, algorithm, expiry, 1);
                             let two = tlc(!received, 1 - algorithm, 0, 2);
-                            let mut asked = plain(for_remote, &[one.clone()], now);
-                            edges.push(asked.clone());
-                            asked.preimages = [one.hash(), one.preimage].concat();
-                            edges.push(asked);
+                            let mut request = plain(for_remote, &[one.clone()], now);
+                            edges.push(request.clone());
+                            request.preimages = [one.hash(), one.preimage].concat();
+                            edges.push(request);
                             let mut both = plain(for_remote, &[one.clone(), two.clone()], now);
                             edges.push(both.clone());
                             both.preimages = [two.hash(), two.preimage].concat();
@@ -106,7 +107,7 @@ impl Kind for Choice {
             }
             edges.extend(nows.map(|now| plain(for_remote, &[], now)));
         }
-        let later: Vec<Asked> = edges.iter().map(as_later).collect();
+        let later: Vec<Request> = edges.iter().map(as_later).collect();
         edges.extend(later);
         // 253, 254 and 255 TLCs, of which the last alone can be settled.
         for count in [253, 254, 255] {
@@ -114,9 +115,9 @@ impl Kind for Choice {
                 let mut tlcs = vec![tlc(!for_remote, 0, u64::MAX, 1); count];
                 tlcs[count - 1].expiry = 0;
                 tlcs[count - 1].local = [9; 33];
-                let asked = plain(for_remote, &tlcs, epoch(13, 0, 1));
-                edges.push(as_later(&asked));
-                edges.push(asked);
+                let request = plain(for_remote, &tlcs, epoch(13, 0, 1));
+                edges.push(as_later(&request));
+                edges.push(request);
             }
         }
         edges
@@ -127,64 +128,64 @@ impl Kind for Choice {
         2 * 2 * (61 + 256)
     }
 
-    fn grid(place: u64) -> Asked {
+    fn grid(place: u64) -> Request {
         let mut next = super::digits(place);
         let (for_remote, is_later, what) = (next(2) == 1, next(2) == 1, next(61 + 256));
-        let mut asked = plain(for_remote, &[tlc(!for_remote, 0, 0, 1)], epoch(13, 0, 1));
+        let mut request = plain(for_remote, &[tlc(!for_remote, 0, 0, 1)], epoch(13, 0, 1));
         if is_later {
-            asked = as_later(&asked);
+            request = as_later(&request);
         }
         match what {
-            0..=60 => asked.args.resize(what as usize, 0x77),
-            _ => asked.args[27] = (what - 61) as u8,
+            0..=60 => request.args.resize(what as usize, 0x77),
+            _ => request.args[27] = (what - 61) as u8,
         }
-        asked
+        request
     }
 
-    fn random(random: &mut Random) -> Asked {
-        let mut asked = consistent(random);
+    fn random(random: &mut Random) -> Request {
+        let mut request = consistent(random);
         if random.one_in(2) {
-            disturb(random, &mut asked);
+            disturb(random, &mut request);
         }
         // Room for every answer, and not much more: every byte of it is looked at.
-        let state = asked.witness.as_ref().map_or(73 + asked.data.tlcs.len() / TLC * 97, Vec::len);
-        let room = 99 + state + asked.args.len().max(57) + random.below(100) as usize;
-        asked.output = room.min(AMPLE);
+        let state = request.witness.as_ref().map_or(73 + request.data.tlcs.len() / TLC * 97, Vec::len);
+        let room = 99 + state + request.args.len().max(57) + random.below(100) as usize;
+        request.output = room.min(AMPLE);
         if random.one_in(12) {
-            if let Document::Value(chosen) = settlement::choice(&asked) {
-                asked.output = match random.below(4) {
+            if let Document::Value(chosen) = settlement::choice(&request) {
+                request.output = match random.below(4) {
                     0 => random.below(chosen.output() as u64) as usize,
                     _ => random.near(chosen.output() as u64) as usize,
                 };
             }
         }
-        asked
+        request
     }
 
     /// Of the edges every 23rd, so that all of their loops have a share in the lines.
-    fn edges_for_dump() -> Vec<Asked> {
+    fn edges_for_dump() -> Vec<Request> {
         let edges = Self::edges().into_iter().step_by(23);
-        edges.map(|asked| Asked { output: 1000, ..asked }).filter(is_short).collect()
+        edges.map(|request| Request { output: 1000, ..request }).filter(is_short).collect()
     }
 
-    fn random_for_dump(random: &mut Random) -> Asked {
+    fn random_for_dump(random: &mut Random) -> Request {
         loop {
-            let asked = Self::random(random);
-            if is_short(&asked) {
-                return asked;
+            let request = Self::random(random);
+            if is_short(&request) {
+                return request;
             }
         }
     }
 
-    fn document(asked: &Asked) -> Document<Chosen> {
-        settlement::choice(asked)
+    fn document(request: &Request) -> Document<Chosen> {
+        settlement::choice(request)
     }
 
-    fn rust(asked: &Asked) -> Rust<Chosen> {
-        match calls::choice(&case(asked)) {
+    fn rust(request: &Request) -> Rust<Chosen> {
+        match calls::choice(&case(request)) {
             calls::Choice::Chosen(c) => {
                 // What it does not hand out is taken from document 01.
-                let (record, pair) = match settlement::choice(asked) {
+                let (record, pair) = match settlement::choice(request) {
                     Document::Value(chosen) => (chosen.record, chosen.pair),
                     Document::Row(..) => ((0, 0), 0),
                 };
@@ -202,25 +203,25 @@ impl Kind for Choice {
             calls::Choice::Wait(number) => Rust::Wait(number.into()),
             calls::Choice::Unread | calls::Choice::Error(_) => Rust::TurnedDown,
             // Its way to turn down args that are too short to hold a since value.
-            calls::Choice::Panic if asked.args.len() < 28 => Rust::TurnedDown,
+            calls::Choice::Panic if request.args.len() < 28 => Rust::TurnedDown,
             calls::Choice::Panic => Rust::Panicked(String::new()),
             calls::Choice::NotModelled(not_modelled) => Rust::NotModelled(not_modelled),
         }
     }
 
-    fn port(asked: &Asked, random: &mut Random) -> Called<Chosen> {
-        port::choose(random, port::CHOOSE.expect("checked by the caller"), asked)
+    fn port(request: &Request, random: &mut Random) -> Called<Chosen> {
+        port::choose(random, port::CHOOSE, request)
     }
 
     /// A later settlement whose delay has the length 0: the text makes an epoch of it, which is then not looked at.
     /// In a first settlement document 01 has row 7, outside the equality.
-    fn not_shown(asked: &Asked) -> bool {
-        asked.args.len() >= 28 && asked.args[27] >> 5 == 0b101 && asked.args[25..27] == [0, 0]
+    fn not_shown(request: &Request) -> bool {
+        request.args.len() >= 28 && request.args[27] >> 5 == 0b101 && request.args[25..27] == [0, 0]
     }
 
-    fn class(asked: &Asked, chosen: &Chosen) -> &'static str {
+    fn class(request: &Request, chosen: &Chosen) -> &'static str {
         let share = chosen.key.is_none();
-        match (asked.witness.is_some(), share, chosen.unlock[1]) {
+        match (request.witness.is_some(), share, chosen.unlock[1]) {
             (false, true, _) => "first, share",
             (false, false, 0) => "first, TLC by timeout",
             (false, false, _) => "first, TLC by preimage",
@@ -231,31 +232,31 @@ impl Kind for Choice {
         }
     }
 
-    fn dump_output(asked: &Asked) -> usize {
-        asked.output
+    fn dump_output(request: &Request) -> usize {
+        request.output
     }
 
-    fn show_input(asked: &Asked) -> String {
-        let (local, remote) = (halves(asked.data.local_amount), halves(asked.data.remote_amount));
+    fn show_input(request: &Request) -> String {
+        let (local, remote) = (halves(request.data.local_amount), halves(request.data.remote_amount));
         format!(
             "{} {} {} {} {} {} {} {} {} {} {} {} {} {} {} {} {}",
-            asked.h,
-            u8::from(asked.for_remote),
-            u8::from(asked.witness.is_some()),
-            asked.time,
-            asked.header,
-            asked.current,
+            request.h,
+            u8::from(request.for_remote),
+            u8::from(request.witness.is_some()),
+            request.time,
+            request.header,
+            request.current,
             local.0,
             local.1,
             remote.0,
             remote.1,
-            hex(&asked.args),
-            hex(&asked.data.tlcs),
-            hex(&asked.data.local_key),
-            hex(&asked.data.remote_key),
-            hex(&asked.tracked),
-            hex(&asked.preimages),
-            hex(asked.witness.as_deref().unwrap_or(&[]))
+            hex(&request.args),
+            hex(&request.data.tlcs),
+            hex(&request.data.local_key),
+            hex(&request.data.remote_key),
+            hex(&request.tracked),
+            hex(&request.preimages),
+            hex(request.witness.as_deref().unwrap_or(&[]))
         )
     }
 
@@ -282,9 +283,9 @@ impl Kind for Choice {
 }
 
 /// Short enough for the dump.
-fn is_short(asked: &Asked) -> bool {
-    let lists = [&asked.data.tlcs, &asked.tracked, &asked.preimages];
+fn is_short(request: &Request) -> bool {
+    let lists = [&request.data.tlcs, &request.tracked, &request.preimages];
     lists.iter().map(|list| list.len()).sum::<usize>() <= 500
-        && asked.witness.as_ref().map_or(0, |witness| witness.len()) <= 340
-        && asked.output <= 1000
+        && request.witness.as_ref().map_or(0, |witness| witness.len()) <= 340
+        && request.output <= 1000
 }

@@ -31,7 +31,7 @@ impl Kind for Due {
 
     const NAME: &'static str = "due";
     const ABOUT: &'static str = "header epoch + delay <= current epoch";
-    const EXPORT: Option<(&'static str, bool)> = Some(("fiber_test_is_due", port::IS_DUE.is_some()));
+    const EXPORT: &'static str = "fiber_test_is_due";
     const DUMP_LINES: usize = 250;
 
     fn edges() -> Vec<Input> {
@@ -124,7 +124,7 @@ impl Kind for Due {
     }
 
     fn port(i: &Input, random: &mut Random) -> Called<bool> {
-        port::is_due(random, port::IS_DUE.expect("checked by the caller"), i.header, i.delay, i.current)
+        port::is_due(random, i.header, i.delay, i.current)
     }
 
     fn class(i: &Input, due: &bool) -> &'static str {

@@ -34,8 +34,7 @@ impl Kind for Expiry {
 
     const NAME: &'static str = "expiry";
     const ABOUT: &'static str = "milliseconds of an absolute timestamp since";
-    const EXPORT: Option<(&'static str, bool)> =
-        Some(("fiber_test_absolute_expiry", port::ABSOLUTE_EXPIRY.is_some()));
+    const EXPORT: &'static str = "fiber_test_absolute_expiry";
     const DUMP_LINES: usize = 250;
 
     fn edges() -> Vec<u64> {
@@ -84,7 +83,7 @@ impl Kind for Expiry {
     }
 
     fn port(since: &u64, random: &mut Random) -> Called<Option<u64>> {
-        port::absolute_expiry(random, port::ABSOLUTE_EXPIRY.expect("checked by the caller"), *since)
+        port::absolute_expiry(random, *since)
     }
 
     fn class(_: &u64, expiry: &Option<u64>) -> &'static str {

@@ -1,10 +1,10 @@
 //! `first`: the first state, `settlement_data_witness`, and in it each record of `settlement_tlc_witness`. Document
 //! 01, module 7.
 
-use super::settlement::{self as generator, lent, other_h, some_data, some_tlcs, Mood, Tlc, AMPLE, TLC};
+use super::settlement::{self as generator, data_of, other_h, some_data, some_tlcs, Mood, Tlc, AMPLE, TLC};
 use super::witness::some_count;
 use super::{hex, Kind};
-use crate::document::settlement::{self, Asked, Data};
+use crate::document::settlement::{self, Data, Request};
 use crate::document::Document;
 use crate::port::{self, halves, Called};
 use crate::random::Random;
@@ -21,7 +21,7 @@ pub struct Input {
 }
 
 /// The Rust's case. Lists have to be whole.
-pub fn case(asked: &Asked) -> Case {
+pub fn case(request: &Request) -> Case {
     let array = |bytes: &[u8]| bytes.try_into().expect("32 bytes");
     let key = |bytes: &[u8]| bytes.try_into().expect("33 bytes");
     let fields = |e: crate::document::Epoch| (e.number, e.index, e.length);
@@ -40,26 +40,30 @@ pub fn case(asked: &Asked) -> Case {
         record: t.record.to_vec(),
     };
     Case {
-        h: asked.h as u8,
-        for_remote: asked.for_remote,
-        args: asked.args.clone(),
-        time: asked.time,
-        header: fields(asked.header),
-        current: fields(asked.current),
-        tlcs: asked.data.list().iter().map(tlc).collect(),
-        local_amount: asked.data.local_amount,
-        remote_amount: asked.data.remote_amount,
-        local_key: key(&asked.data.local_key),
-        remote_key: key(&asked.data.remote_key),
-        tracked: asked.tracked().iter().map(tracked).collect(),
-        preimages: asked.preimages.chunks(64).map(|pair| (array(&pair[..32]), array(&pair[32..]))).collect(),
-        witness: asked.witness.clone(),
+        h: request.h as u8,
+        for_remote: request.for_remote,
+        args: request.args.clone(),
+        time: request.time,
+        header: fields(request.header),
+        current: fields(request.current),
+        tlcs: request.data.list().iter().map(tlc).collect(),
+        local_amount: request.data.local_amount,
+        remote_amount: request.data.remote_amount,
+        local_key: key(&request.data.local_key),
+        remote_key: key(&request.data.remote_key),
+        tracked: request.tracked().iter().map(tracked).collect(),
+        preimages: request
+            .preimages
+            .chunks(64)
+            .map(|pair| (array(&pair[..32]), array(&pair[32..])))
+            .collect(),
+        witness: request.witness.clone(),
     }
 }
 
 fn first_case(i: &Input) -> Case {
     let zero = super::epoch(0, 0, 1);
-    case(&Asked {
+    case(&Request {
         h: i.h,
         for_remote: i.for_remote,
         args: vec![],
@@ -93,8 +97,7 @@ impl Kind for First {
 
     const NAME: &'static str = "first";
     const ABOUT: &'static str = "the first state";
-    const EXPORT: Option<(&'static str, bool)> =
-        Some(("fiber_test_data_witness", port::DATA_WITNESS.is_some()));
+    const EXPORT: &'static str = "fiber_test_data_witness";
     const DUMP_LINES: usize = 120;
     const DUMP_ROWS: bool = true;
     const DUMP_ALIKE: usize = 40;
@@ -105,14 +108,14 @@ impl Kind for First {
             for for_remote in [true, false] {
                 for count in [0, 1, 2, 3, 4, 5] {
                     let tlcs: Vec<Tlc> = (0..count).map(plain).collect();
-                    let data = lent(&tlcs, [4; 33], [5; 33]);
+                    let data = data_of(&tlcs, [4; 33], [5; 33]);
                     edges.push(Input { h, for_remote, data, output: AMPLE });
                 }
             }
         }
         for count in [253, 254, 255, 256, 257, 300, 512] {
             let tlcs: Vec<Tlc> = (0..count).map(plain).collect();
-            let data = lent(&tlcs, [4; 33], [5; 33]);
+            let data = data_of(&tlcs, [4; 33], [5; 33]);
             edges.push(Input { h: 20, for_remote: true, data: data.clone(), output: AMPLE });
             edges.push(Input { h: 32, for_remote: false, data, output: 72 });
         }
@@ -128,7 +131,7 @@ impl Kind for First {
         let mut next = super::digits(place);
         let (h, for_remote, count) = ([20, 32][next(2) as usize], next(2) == 1, next(3) as usize);
         let tlcs: Vec<Tlc> = (0..count).map(plain).collect();
-        Input { h, for_remote, data: lent(&tlcs, [4; 33], [5; 33]), output: next(280) as usize }
+        Input { h, for_remote, data: data_of(&tlcs, [4; 33], [5; 33]), output: next(280) as usize }
     }
 
     fn random(random: &mut Random) -> Input {
@@ -181,8 +184,7 @@ impl Kind for First {
     }
 
     fn port(i: &Input, random: &mut Random) -> Called<Vec<u8>> {
-        let call = port::DATA_WITNESS.expect("checked by the caller");
-        port::data_witness(random, call, i.h, i.for_remote, &i.data, i.output)
+        port::data_witness(random, i.h, i.for_remote, &i.data, i.output)
     }
 
     fn further(i: &Input) -> Result<(), &'static str> {
@@ -265,8 +267,7 @@ impl Kind for Record {
 
     const NAME: &'static str = "record";
     const ABOUT: &'static str = "one first record";
-    const EXPORT: Option<(&'static str, bool)> =
-        Some(("fiber_test_tlc_witness", port::TLC_WITNESS.is_some()));
+    const EXPORT: &'static str = "fiber_test_tlc_witness";
     const DUMP_LINES: usize = 0;
 
     fn edges() -> Vec<One> {
@@ -274,7 +275,7 @@ impl Kind for Record {
         for h in [20, 32, 0, 19, 21, 31, 33, 256 + 20, u64::MAX] {
             for for_remote in [true, false] {
                 for place in 0..20 {
-                    let tlc = lent(&[plain(place)], [4; 33], [5; 33]).tlcs;
+                    let tlc = data_of(&[plain(place)], [4; 33], [5; 33]).tlcs;
                     edges.push(One { h, for_remote, tlc, output: 97 });
                 }
             }
@@ -290,7 +291,7 @@ impl Kind for Record {
     fn grid(place: u64) -> One {
         let mut next = super::digits(place);
         let (h, for_remote, what) = ([20, 32][next(2) as usize], next(2) == 1, next(131 + 131 + 2 * 256));
-        let mut tlc = lent(&[plain(what as usize % 20)], [4; 33], [5; 33]).tlcs;
+        let mut tlc = data_of(&[plain(what as usize % 20)], [4; 33], [5; 33]).tlcs;
         let mut output = 97;
         match what {
             0..=130 => tlc.resize(what as usize, 1),
@@ -306,7 +307,7 @@ impl Kind for Record {
             h = other_h(random, h);
         }
         let mood = Mood { for_remote: random.one_in(2), time: generator::some_time(random), share: false };
-        let mut tlc = lent(&some_tlcs(random, mood, 1), [4; 33], [5; 33]).tlcs;
+        let mut tlc = data_of(&some_tlcs(random, mood, 1), [4; 33], [5; 33]).tlcs;
         match random.below(20) {
             0 => tlc.resize(random.pick(&[0, 1, 123, 125, 248]), 0),
             1 => tlc[random.below(2) as usize] = random.below(256) as u8,
@@ -326,14 +327,13 @@ impl Kind for Record {
     }
 
     fn rust(i: &One) -> Rust<Vec<u8>> {
-        let data = Data { tlcs: i.tlc.clone(), ..lent(&[], [4; 33], [5; 33]) };
+        let data = Data { tlcs: i.tlc.clone(), ..data_of(&[], [4; 33], [5; 33]) };
         let case = first_case(&Input { h: i.h, for_remote: i.for_remote, data, output: 0 });
         Rust::Value(calls::tlc_record(&case, 0))
     }
 
     fn port(i: &One, random: &mut Random) -> Called<Vec<u8>> {
-        let call = port::TLC_WITNESS.expect("checked by the caller");
-        port::tlc_witness(random, call, i.h, i.for_remote, &i.tlc, i.output)
+        port::tlc_witness(random, i.h, i.for_remote, &i.tlc, i.output)
     }
 
     fn show_input(i: &One) -> String {

@@ -69,7 +69,7 @@ macro_rules! hash_kind {
 
             const NAME: &'static str = $name;
             const ABOUT: &'static str = $about;
-            const EXPORT: Option<(&'static str, bool)> = Some(($export, port::$port.is_some()));
+            const EXPORT: &'static str = $export;
             const DUMP_LINES: usize = 56;
             // The call has a status by convention alone, and no answer buffer.
             const DUMP_FRONT: &'static str = "0";
@@ -96,7 +96,7 @@ macro_rules! hash_kind {
                 Rust::Value(calls::$function(message))
             }
             fn port(message: &Message, random: &mut Random) -> Called<[u8; 32]> {
-                port::hash(random, port::$port.expect("checked by the caller"), message)
+                port::hash(random, port::$port, message)
             }
             fn dump_output(_: &Message) -> usize {
                 32

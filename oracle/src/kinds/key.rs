@@ -14,7 +14,7 @@ impl Kind for Key {
 
     const NAME: &'static str = "key";
     const ABOUT: &'static str = "the hash of a public key";
-    const EXPORT: Option<(&'static str, bool)> = Some(("fiber_test_key_hash", port::KEY_HASH.is_some()));
+    const EXPORT: &'static str = "fiber_test_key_hash";
     const DUMP_LINES: usize = 60;
 
     fn edges() -> Vec<Vec<u8>> {
@@ -63,7 +63,7 @@ impl Kind for Key {
     }
 
     fn port(key: &Vec<u8>, random: &mut Random) -> Called<[u8; 20]> {
-        port::key_hash(random, port::KEY_HASH.expect("checked by the caller"), key)
+        port::key_hash(random, key)
     }
 
     fn show_input(key: &Vec<u8>) -> String {

@@ -39,7 +39,7 @@ impl Kind for Mul {
 
     const NAME: &'static str = "mul";
     const ABOUT: &'static str = "an epoch scaled by a fraction";
-    const EXPORT: Option<(&'static str, bool)> = Some(("fiber_test_mul", port::MUL.is_some()));
+    const EXPORT: &'static str = "fiber_test_mul";
     const DUMP_LINES: usize = 300;
 
     fn edges() -> Vec<Input> {
@@ -144,7 +144,7 @@ impl Kind for Mul {
     }
 
     fn port(i: &Input, random: &mut Random) -> Called<Epoch> {
-        port::mul(random, port::MUL.expect("checked by the caller"), i.delay, i.numerator, i.denominator)
+        port::mul(random, i.delay, i.numerator, i.denominator)
     }
 
     fn class(i: &Input, scaled: &Epoch) -> &'static str {

@@ -1,7 +1,7 @@
 //! `read`: the reader's answer to a witness. Document 01, modules 5 and 6.
 
-use super::witness::{self, Input};
-use super::{hex, Kind};
+use super::witness::{witness_inputs, Input};
+use super::Kind;
 use crate::document::settlement::{self, Read};
 use crate::document::Document;
 use crate::port::{self, Called};
@@ -11,38 +11,12 @@ use crate::reference::calls::{self, Rust};
 pub struct Reader;
 
 impl Kind for Reader {
-    type Input = Input;
     type Value = Read;
 
     const NAME: &'static str = "read";
     const ABOUT: &'static str = "a witness read";
-    const EXPORT: Option<(&'static str, bool)> = Some(("fiber_settlement_read", port::READ.is_some()));
-    const DUMP_LINES: usize = 200;
-    const DUMP_ROWS: bool = true;
-
-    fn edges() -> Vec<Input> {
-        witness::edges()
-    }
-
-    fn grid_size() -> u64 {
-        witness::GRID
-    }
-
-    fn grid(place: u64) -> Input {
-        witness::grid(place)
-    }
-
-    fn random(random: &mut Random) -> Input {
-        witness::random(random)
-    }
-
-    fn edges_for_dump() -> Vec<Input> {
-        witness::edges_for_dump()
-    }
-
-    fn random_for_dump(random: &mut Random) -> Input {
-        witness::random_for_dump(random)
-    }
+    const EXPORT: &'static str = "fiber_settlement_read";
+    witness_inputs!();
 
     fn document(i: &Input) -> Document<Read> {
         settlement::read(i.h, &i.witness)
@@ -71,7 +45,7 @@ impl Kind for Reader {
     }
 
     fn port(i: &Input, random: &mut Random) -> Called<Read> {
-        port::read(random, port::READ.expect("checked by the caller"), i.h, &i.witness)
+        port::read(random, i.h, &i.witness)
     }
 
     fn class(_: &Input, read: &Read) -> &'static str {
@@ -82,10 +56,6 @@ impl Kind for Reader {
             (_, 0) => "TLCs, no unlocks",
             _ => "TLCs, unlocks",
         }
-    }
-
-    fn show_input(i: &Input) -> String {
-        format!("{} {}", i.h, hex(&i.witness))
     }
 
     fn show_value(read: &Read) -> String {

@@ -3,7 +3,7 @@
 
 use super::witness::{damage, some_count};
 use super::{any_epoch, epoch, LIMITS};
-use crate::document::settlement::{self, Asked, Data};
+use crate::document::settlement::{self, Data, Request};
 use crate::document::{self, Document, Epoch};
 use crate::random::Random;
 
@@ -12,7 +12,7 @@ pub const AMPLE: usize = 60_000;
 
 pub const TLC: usize = 124;
 
-/// A settlement TLC before it is lent.
+/// A settlement TLC before it is an entry of the list.
 #[derive(Clone)]
 pub struct Tlc {
     pub received: bool,
@@ -33,7 +33,7 @@ impl Tlc {
         }
     }
 
-    fn lent(&self) -> Vec<u8> {
+    fn entry(&self) -> Vec<u8> {
         let mut entry = vec![u8::from(self.received), self.algorithm];
         entry.extend(self.amount.to_le_bytes());
         entry.extend(self.hash());
@@ -44,9 +44,9 @@ impl Tlc {
     }
 }
 
-pub fn lent(tlcs: &[Tlc], local_key: [u8; 33], remote_key: [u8; 33]) -> Data {
+pub fn data_of(tlcs: &[Tlc], local_key: [u8; 33], remote_key: [u8; 33]) -> Data {
     Data {
-        tlcs: tlcs.iter().flat_map(Tlc::lent).collect(),
+        tlcs: tlcs.iter().flat_map(Tlc::entry).collect(),
         local_amount: 7,
         remote_amount: 5,
         local_key: local_key.to_vec(),
@@ -145,7 +145,7 @@ pub fn some_data(random: &mut Random, tlcs: &[Tlc]) -> Data {
     Data {
         local_amount: amount(random),
         remote_amount: amount(random),
-        ..lent(tlcs, bytes(random), bytes(random))
+        ..data_of(tlcs, bytes(random), bytes(random))
     }
 }
 
@@ -242,7 +242,7 @@ fn some_epochs(random: &mut Random) -> (Epoch, Epoch, Epoch) {
 }
 
 /// A whole case: settlement data, tracked list, preimages, and in a later settlement a witness.
-pub fn consistent(random: &mut Random) -> Asked {
+pub fn consistent(random: &mut Random) -> Request {
     let h = random.pick(&[20, 32]);
     let mood = Mood { for_remote: random.one_in(2), time: some_time(random), share: random.one_in(4) };
     let mut count = usize::from(some_count(random));
@@ -263,7 +263,7 @@ pub fn consistent(random: &mut Random) -> Asked {
     if random.one_in(8) {
         args[27] |= random.below(32) as u8;
     }
-    let mut asked = Asked {
+    let mut request = Request {
         h,
         for_remote: mood.for_remote,
         args,
@@ -277,7 +277,7 @@ pub fn consistent(random: &mut Random) -> Asked {
         data,
     };
     let size = 65 + h as usize;
-    let list = asked.data.clone();
+    let list = request.data.clone();
     let state = |count: usize| {
         let list = Data { tlcs: list.tlcs[..count * TLC].to_vec(), ..list.clone() };
         match settlement::first(h, mood.for_remote, &list, AMPLE) {
@@ -288,8 +288,8 @@ pub fn consistent(random: &mut Random) -> Asked {
     if random.one_in(2) {
         let whole = state(count.min(255));
         let records = whole[1..whole.len() - 72].chunks_exact(size);
-        asked.tracked = tracked_list(tlcs.iter().zip(records));
-        return asked;
+        request.tracked = tracked_list(tlcs.iter().zip(records));
+        return request;
     }
     let count = count.min(255);
     let mut whole = state(count);
@@ -314,7 +314,7 @@ pub fn consistent(random: &mut Random) -> Asked {
     }
     let standing = tlcs.iter().zip(whole[1..whole.len() - 72].chunks_exact(size)).enumerate();
     let standing = standing.filter(|(place, _)| *place > 253 || !unlocks.contains(&(*place as u8)));
-    asked.tracked = tracked_list(standing.map(|(_, entry)| entry));
+    request.tracked = tracked_list(standing.map(|(_, entry)| entry));
     let mut witness = vec![random.below(256) as u8];
     witness.extend(&whole);
     for byte in unlocks {
@@ -324,20 +324,20 @@ pub fn consistent(random: &mut Random) -> Asked {
         random.fill(&mut witness[from..]);
         witness[from..from + 2].copy_from_slice(&[byte, flag]);
     }
-    asked.witness = Some(witness);
+    request.witness = Some(witness);
     // Settlement TLCs that nearly match, before the right one.
     if count > 0 && random.one_in(3) {
         let at = random.below(count as u64) as usize * TLC;
-        let mut near = asked.data.tlcs[at..at + TLC].to_vec();
+        let mut near = request.data.tlcs[at..at + TLC].to_vec();
         match random.below(4) {
             0 => near[58 + random.below(33) as usize] ^= 1 << random.below(8),
             1 => near[38 + random.below(12) as usize] ^= 1 << random.below(8),
             2 => near[18 + random.below(20) as usize] ^= 1 << random.below(8),
             _ => near[..18].fill(0),
         }
-        asked.data.tlcs.splice(at..at, near);
+        request.data.tlcs.splice(at..at, near);
     }
-    asked
+    request
 }
 
 fn flip(random: &mut Random, bytes: &mut [u8]) {
@@ -394,40 +394,40 @@ pub fn other_h(random: &mut Random, h: u64) -> u64 {
 }
 
 /// Changes one thing.
-pub fn disturb(random: &mut Random, asked: &mut Asked) {
-    let size = 98 + asked.h as usize;
+pub fn disturb(random: &mut Random, request: &mut Request) {
+    let size = 98 + request.h as usize;
     match random.below(16) {
-        0 => asked.args.resize(random.below(61) as usize, 0),
-        1 if asked.args.len() > 27 => asked.args[27] = random.below(256) as u8,
-        2 => flip(random, &mut asked.args),
-        3 => disturb_list(random, &mut asked.tracked, size),
-        4 => flip(random, &mut asked.tracked),
-        5 if !asked.tracked.is_empty() => {
+        0 => request.args.resize(random.below(61) as usize, 0),
+        1 if request.args.len() > 27 => request.args[27] = random.below(256) as u8,
+        2 => flip(random, &mut request.args),
+        3 => disturb_list(random, &mut request.tracked, size),
+        4 => flip(random, &mut request.tracked),
+        5 if !request.tracked.is_empty() => {
             // Another hash or algorithm beside the right record.
-            let at = random.below((asked.tracked.len() / size) as u64) as usize * size;
+            let at = random.below((request.tracked.len() / size) as u64) as usize * size;
             let byte = random.pick(&[0, 31, 32, 32]);
-            asked.tracked[at + byte] ^= random.pick(&[1, 1, 1, 2]);
+            request.tracked[at + byte] ^= random.pick(&[1, 1, 1, 2]);
         }
-        6 | 7 => disturb_data(random, &mut asked.data),
-        8 => disturb_list(random, &mut asked.preimages, 64),
+        6 | 7 => disturb_data(random, &mut request.data),
+        8 => disturb_list(random, &mut request.preimages, 64),
         9 => {
-            let which = if random.one_in(2) { &mut asked.header } else { &mut asked.current };
+            let which = if random.one_in(2) { &mut request.header } else { &mut request.current };
             *which = any_epoch(random);
         }
         10 => {
             let mut delay = any_epoch(random);
             (delay.number, delay.index, delay.length) =
                 (delay.number & 0xff_ffff, delay.index & 0xffff, delay.length & 0xffff);
-            asked.args.resize(57, 0);
-            asked.args[20..28].copy_from_slice(&since_of(delay).to_le_bytes());
+            request.args.resize(57, 0);
+            request.args[20..28].copy_from_slice(&since_of(delay).to_le_bytes());
         }
         11 => {
-            asked.time = if random.one_in(4) { random.pick(LIMITS) } else { random.near(asked.time) };
+            request.time = if random.one_in(4) { random.pick(LIMITS) } else { random.near(request.time) };
         }
-        12 if random.one_in(4) => asked.h = other_h(random, asked.h),
-        13 => asked.for_remote ^= true,
+        12 if random.one_in(4) => request.h = other_h(random, request.h),
+        13 => request.for_remote ^= true,
         _ => {
-            let Some(witness) = &mut asked.witness else {
+            let Some(witness) = &mut request.witness else {
                 return;
             };
             // The share part: a key hash all zeros but for one byte, or all zeros.

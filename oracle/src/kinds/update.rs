@@ -1,6 +1,6 @@
 //! `update`: the state behind a witness's unlocks. Document 01, "Update".
 
-use super::witness::{self, Input};
+use super::witness::{witness_inputs, Input};
 use super::{hex, Kind};
 use crate::document::{settlement, Document};
 use crate::port::{self, Called};
@@ -10,39 +10,13 @@ use crate::reference::calls::{self, Rust};
 pub struct Update;
 
 impl Kind for Update {
-    type Input = Input;
     /// The new state.
     type Value = Vec<u8>;
 
     const NAME: &'static str = "update";
     const ABOUT: &'static str = "a witness updated";
-    const EXPORT: Option<(&'static str, bool)> = Some(("fiber_settlement_update", port::UPDATE.is_some()));
-    const DUMP_LINES: usize = 200;
-    const DUMP_ROWS: bool = true;
-
-    fn edges() -> Vec<Input> {
-        witness::edges()
-    }
-
-    fn grid_size() -> u64 {
-        witness::GRID
-    }
-
-    fn grid(place: u64) -> Input {
-        witness::grid(place)
-    }
-
-    fn random(random: &mut Random) -> Input {
-        witness::random(random)
-    }
-
-    fn edges_for_dump() -> Vec<Input> {
-        witness::edges_for_dump()
-    }
-
-    fn random_for_dump(random: &mut Random) -> Input {
-        witness::random_for_dump(random)
-    }
+    const EXPORT: &'static str = "fiber_settlement_update";
+    witness_inputs!();
 
     fn document(i: &Input) -> Document<Vec<u8>> {
         settlement::update(i.h, &i.witness, i.output)
@@ -57,7 +31,7 @@ impl Kind for Update {
     }
 
     fn port(i: &Input, random: &mut Random) -> Called<Vec<u8>> {
-        port::update(random, port::UPDATE.expect("checked by the caller"), i.h, &i.witness, i.output)
+        port::update(random, i.h, &i.witness, i.output)
     }
 
     fn class(i: &Input, state: &Vec<u8>) -> &'static str {
@@ -75,10 +49,6 @@ impl Kind for Update {
 
     fn dump_output(i: &Input) -> usize {
         i.output
-    }
-
-    fn show_input(i: &Input) -> String {
-        format!("{} {}", i.h, hex(&i.witness))
     }
 
     fn show_value(state: &Vec<u8>) -> String {

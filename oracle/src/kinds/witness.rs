@@ -235,3 +235,36 @@ pub fn random(random: &mut Random) -> Input {
     };
     Input { h, witness, output }
 }
+
+/// What the kinds `read` and `update` share: their inputs, and how many lines of the dump have them.
+macro_rules! witness_inputs {
+    () => {
+        type Input = Input;
+
+        const DUMP_LINES: usize = 200;
+        const DUMP_ROWS: bool = true;
+
+        fn edges() -> Vec<Input> {
+            super::witness::edges()
+        }
+        fn grid_size() -> u64 {
+            super::witness::GRID
+        }
+        fn grid(place: u64) -> Input {
+            super::witness::grid(place)
+        }
+        fn random(random: &mut Random) -> Input {
+            super::witness::random(random)
+        }
+        fn edges_for_dump() -> Vec<Input> {
+            super::witness::edges_for_dump()
+        }
+        fn random_for_dump(random: &mut Random) -> Input {
+            super::witness::random_for_dump(random)
+        }
+        fn show_input(i: &Input) -> String {
+            format!("{} {}", i.h, super::hex(&i.witness))
+        }
+    };
+}
+pub(super) use witness_inputs;

@@ -28,5 +28,5 @@ noMarks = replicate 256 false
 
 -- what `take_unlocks` answers where the unlocks come to this: marks and shares where all are fine, else the row alone
 unfoldable pub TakesAs : Unlocked → UnlocksAnswer → List Bool → Bool → Bool → Type 0
-TakesAs (fine n share t) a marks remote local = (a ≡ unlocks·.Fine) × (Marks marks (t .settled) × ((remote ≡ t .remote) × (local ≡ t .local)))
+TakesAs (fine n sharePlace t) a marks remote local = (a ≡ unlocks·.Fine) × (Marks marks (t .settled) × ((remote ≡ t .remote) × (local ≡ t .local)))
 TakesAs (faulty number place) a marks remote local = a ≡ unlocks·.Refused number place

@@ -9,8 +9,8 @@ use Rattle.fiber_witness.specs.Update.{keep}
 use Rattle.fiber_witness.specs.inner.Marks.{marked}
 
 -- the place of the share part of a witness, behind n TLCs
-abbrev pub sharePlace : ℕ → ℕ → ℕ
-sharePlace h n = 2 + n * recordLen h
+abbrev pub behindTlcs : ℕ → ℕ → ℕ
+behindTlcs h n = 2 + n * recordLen h
 
 -- m records of size bytes each, stride bytes apart, the first at a place of s
 unfoldable pub strided : ℕ → ℕ → ℕ → List ℕ → ℕ → List (List ℕ)

@@ -130,7 +130,7 @@ module _ {M : Type 1} (𝓤 : URA M) (H : Heap 𝓤) (A : Atoms 𝓤) (W : Given
       nothing ! $ move ! (2 ∷ 0 ∷ []) $ join ! $ join ! $ frame ! $ done !
 
   abbrev Told : Found → Type 0
-  Told y = y ≡ findPair 0 (entries pairLen (flatPairs (take n xs))) h
+  Told y = y ≡ findPair (entries pairLen (flatPairs (take n xs))) h
 
   said : (ν : ℕ) (γ : GName) (b : ℕ) (y : Found)
       → ent 𝓤 (ensured 𝓤 H A find.ended (find.clauses 𝓤 H A mem run) (ν ∷ [], tt) (s b γ, (h, tt)) tt y) (fact 𝓤 (Told y))

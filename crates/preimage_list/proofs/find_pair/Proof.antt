@@ -125,7 +125,8 @@ use Rattle.fiber_choice.proofs.kinds.Found as F
 use Rattle.fiber_choice.proofs.kinds.Found.Laws as F′
 use Rattle.preimage_list.specs.declared.Preimage.{Preimage}
 use Rattle.preimage_list.proofs.PreimageListLaws.{findIn, noPair, Sized, find-agrees}
-use Rattle.preimage_list.proofs.Search.{Inv, starts, within, steps, stops, le-or-lt}
+use Rattle.fiber_bytes.proofs.BytesLaws.{either}
+use Rattle.preimage_list.proofs.Search.{Inv, starts, within, steps, stops}
 use Rattle.preimage_list.proofs.SizedHolds.{Shared, slice-sized}
 use Rattle.preimage_list.proofs.Preimage as T
 use Rattle.preimage_list.proofs.Preimage.Laws as T′
@@ -366,7 +367,7 @@ module _ {M : Type 1} (𝓤 : URA M) (H : Heap 𝓤) (A : Atoms 𝓤) (W : Given
         keep ! (2 ∷ 0 ∷ 3 ∷ []) $ by ! (exits y u (e ∙ stops ys h (x .i) (x .end) (x .inv) l) ih sized)))))
 
     turns : (x : St) → Sq W (At-turn x) (runs C Λ En mir.turn-1 (anyQ (Turned x)))
-    turns x = ⊎-elim (λ l. ends x l) (λ l. more x l) (le-or-lt (x .end) (x .i))
+    turns x = ⊎-elim (λ l. ends x l) (λ l. more x l) (either (x .end) (x .i))
 
     -- the loop from its start, and the rest of the body
     abbrev begins : St

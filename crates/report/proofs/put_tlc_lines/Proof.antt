@@ -4,7 +4,7 @@ use Prim.Native.Nat.{_+_, _-_, _*_, _≤_}
 use mathlib.Core.Path.{_≡_, refl}
 use native.Mathlib.Omega.{arith}
 use lib.ListN.{length, drop}
-use Rattle.fiber_witness.specs.Witness.{records}
+use Rattle.fiber_witness.specs.Witness.{chunks}
 use Rattle.report.specs.Report.{tlcLines}
 use Rattle.report.proofs.ReportLaws.{part-short, Left, lines-start, lines-more, lines-end, lines-short, record-in, record-next}
 use borrow.Author.Needs.{needs}
@@ -13,7 +13,7 @@ use Rattle.report.proofs.put_tlc_lines.Tie as tie
 
 abbrev Inv-loop : tie.InvT-loop
 Inv-loop out₀ at tlcs n size end₀ from₀ i₀ out end from i =
-    (i ≤ n) × ((from ≡ i * size) × ((length out ≡ length out₀) × Left out end (tlcLines i (records size (n - i) (drop from tlcs))) out₀ at (tlcLines 0 (records size n tlcs))))
+    (i ≤ n) × ((from ≡ i * size) × ((length out ≡ length out₀) × Left out end (tlcLines i (chunks size (n - i) (drop from tlcs))) out₀ at (tlcLines 0 (chunks size n tlcs))))
 
 abbrev μ-loop : tie.MeasureT-loop
 μ-loop out₀ at tlcs n size end₀ from₀ i₀ out end from i = n - i
@@ -54,7 +54,7 @@ loop-again : tie.Need-loop-again Inv-loop μ-loop
 loop-again c =
     let l = c .before .before .before .before .before .before .loop in
     let a = c .before .before .before .before .before .before .before .before .before .args in
-    let all = tlcLines 0 (records (a .size) (a .n) (a .tlcs .now)) in
+    let all = tlcLines 0 (chunks (a .size) (a .n) (a .tlcs .now)) in
     let e = c .before .before .put-tlc-line .ensures in (
       search needs,
       (
@@ -68,7 +68,7 @@ returns c =
     let l = c .before .loop in
     let z = c .before .before .before .before in
     let a = z .args in
-    let all = tlcLines 0 (records (a .size) (a .n) (a .tlcs .now)) in
+    let all = tlcLines 0 (chunks (a .size) (a .n) (a .tlcs .now)) in
     let w = lines-end (a .out .now) (a .at) all (l .out) (l .end) (a .size) (a .n) (a .tlcs .now) (l .i) (l .from) (search needs) (l .inv .1 .1 .1) in
     ((w .0, omega (arith, w .0, lines-short (a .size) (a .n) 0 (a .tlcs .now) (z .pre .0 .1 .0) (z .pre .0 .1 .1))), w .1)
 

@@ -9,36 +9,36 @@ use Rattle.report.proofs.report.Tie as tie
 returns : tie.Need-returns
 returns c =
     let a = c .before .before .before .before .before .before .before .before .args in
-    says-none (a .input .now) (a .state .now) (a .out .now) (search needs) _ _ (c .before .before .put-refused .ensures)
+    says-none (a .input .now) (a .buffer .now) (a .out .now) (search needs) _ _ (c .before .before .put-refused .ensures)
 
 returns-2 : tie.Need-returns-2
 returns-2 c =
     let a = c .before .before .before .before .before .before .before .before .before .args in
-    says-long (a .input .now) (a .state .now) (a .out .now) (search needs) _ _ (c .before .before .put-refused2 .ensures)
+    says-long (a .input .now) (a .buffer .now) (a .out .now) (search needs) _ _ (c .before .before .put-refused2 .ensures)
 
 cast-h : tie.Need-cast-h
 cast-h c = omega (arith, c .shared-slice-known2 .given 0)
 
-put-state-requires : tie.Need-put-state-requires
-put-state-requires c κs =
-    let told = c .before .before .before .before in
-    let u = told .before .before .before .before .update .ensures in
-    left-part _ _ _ _ _ (u .1) (sym (told .len .given .1) ∙ u .0) _ (c .part-of .ensures)
+put-state-text-requires : tie.Need-put-state-text-requires
+put-state-text-requires c κs =
+    let m = c .before .before .before .before in
+    let u = m .before .before .before .before .update .ensures in
+    left-part _ _ _ _ _ (u .1) (sym (m .len .given .1) ∙ u .0) _ (c .part-of .ensures)
 
 returns-3 : tie.Need-returns-3
 returns-3 c =
-    let told = c .before .before .before .before .before .before .before in
-    let u = told .before .before .before .before .update .ensures in
-    let a = told .before .before .before .before .before .before .before .before .before .before .before .before .before .args in
-    says-state (a .input .now) (a .state .now) (a .out .now) (search needs) (search needs) _ refl _ (u .1) _ (sym (told .len .given .1) ∙ u .0) _ (c .before .before .before .part-of .ensures) _ _
-    (c .before .before .put-state .ensures)
+    let m = c .before .before .before .before .before .before .before in
+    let u = m .before .before .before .before .update .ensures in
+    let a = m .before .before .before .before .before .before .before .before .before .before .before .before .before .args in
+    says-state (a .input .now) (a .buffer .now) (a .out .now) (search needs) (search needs) _ refl _ (u .1) _ (sym (m .len .given .1) ∙ u .0) _ (c .before .before .before .part-of .ensures) _ _
+    (c .before .before .put-state-text .ensures)
 
 returns-4 : tie.Need-returns-4
 returns-4 c =
-    let told = c .before .before .before .before .before in
-    let u = told .before .before .before .before .update .ensures in
-    let a = told .before .before .before .before .before .before .before .before .before .before .before .before .before .args in
-    says-refused (a .input .now) (a .state .now) (a .out .now) (search needs) (search needs) _ refl _ (u .1) _ _ (sym (told .number .given .1) ∙ u .0) _ _ (c .before .before .put-refused3 .ensures)
+    let m = c .before .before .before .before .before in
+    let u = m .before .before .before .before .update .ensures in
+    let a = m .before .before .before .before .before .before .before .before .before .before .before .before .before .args in
+    says-refused (a .input .now) (a .buffer .now) (a .out .now) (search needs) (search needs) _ refl _ (u .1) _ _ (sym (m .number .given .1) ∙ u .0) _ _ (c .before .before .put-refused3 .ensures)
 
 pub report-spec : {M : Type 1} → statement M
 report-spec =
@@ -58,7 +58,7 @@ report-spec =
     (λ c κs. search needs)
     (λ c. search needs)
     (λ c κs. search needs)
-    put-state-requires
+    put-state-text-requires
     (λ c. search needs)
     (λ c κs. search needs)
     (λ c. search needs)

@@ -41,13 +41,13 @@ returns-3 c =
     front-cut _ _ _ _ _ _ _ (s .before .before .before .before .pre) (sym (s .valid-hash-len .ensures) ∙ not-false _ (c .before .before .if1 .left))
     (not-false _ (c .before .if2 .left)) _ refl (not-true _ (c .if3 .taken))
 
-mul-share : tie.Need-mul-share
-mul-share c =
+mul-share-place : tie.Need-mul-share-place
+mul-share-place c =
     let s = c .before .before .before .before in
     omega (arith, len-small _ _ (sym (s .valid-hash-len .ensures) ∙ not-false _ (c .before .before .before .if1 .left)) (c .count-in .ensures .1))
 
-add-share : tie.Need-add-share
-add-share c =
+add-share-place : tie.Need-add-share-place
+add-share-place c =
     let s = c .before .before .before .before in
     omega (arith, len-small _ _ (sym (s .valid-hash-len .ensures) ∙ not-false _ (c .before .before .before .if1 .left)) (c .count-in .ensures .1))
 
@@ -91,8 +91,8 @@ read-front-spec =
     add-t16
     returns-3
     (λ c κs. search needs)
-    mul-share
-    add-share
+    mul-share-place
+    add-share-place
     returns-4
     read-unlocks-requires
     returns-5)

@@ -9,10 +9,10 @@ use Rattle.witness_reader.proofs.read_unlocks.Statement.{statement}
 use Rattle.witness_reader.proofs.read_unlocks.Tie as tie
 
 abbrev Inv-loop : tie.InvT-loop
-Inv-loop w n share rest left₀ unlocks₀ left unlocks = Rest w left n share unlocks
+Inv-loop w n sharePlace rest left₀ unlockCount₀ left unlockCount = Rest w left n sharePlace unlockCount
 
 abbrev μ-loop : tie.MeasureT-loop
-μ-loop w n share rest left₀ unlocks₀ left unlocks = length left
+μ-loop w n sharePlace rest left₀ unlockCount₀ left unlockCount = length left
 
 loop-holds : tie.Need-loop-holds Inv-loop μ-loop
 loop-holds c = rest-start _ _ _ _ (c .before .before .pre .0) (c .before .before .pre .1)
@@ -28,8 +28,8 @@ loop-again : tie.Need-loop-again Inv-loop μ-loop
 loop-again c = rest-more _ _ _ _ _ (c .before .before .before .before .loop .inv) _ (c .before .unlock-left .ensures)
     (eqb-false _ _ (sym (c .before .before .before .ended .ensures) ∙ not-true _ (c .before .before .if1 .taken))) (c .if2 .left)
 
-add-unlocks : tie.Need-add-unlocks Inv-loop μ-loop
-add-unlocks c = omega (arith, rest-few _ _ _ _ _ (loop-again c))
+add-unlock-count : tie.Need-add-unlock-count Inv-loop μ-loop
+add-unlock-count c = omega (arith, rest-few _ _ _ _ _ (loop-again c))
 
 loop-less : tie.Need-loop-less Inv-loop μ-loop
 loop-less c = rest-less _ _ _ _ _ (c .before .before .before .before .loop .inv) _ (c .before .unlock-left .ensures)
@@ -52,7 +52,7 @@ read-unlocks-spec =
     (λ c κs. search needs)
     sub-t14
     returns
-    add-unlocks
+    add-unlock-count
     loop-less
     loop-again
     add-t15

@@ -20,5 +20,6 @@ share-of-spec =
     (λ c. search needs)
     (λ c κs. search needs)
     (λ c. search needs)
+    (λ c. search needs)
     (λ c κs. search needs)
     returns)

@@ -1,9 +1,9 @@
 -- Each variant of the choice is one clause of the definition.
 -- A tracked TLC's record is behind 33 bytes of its entry; it is whole, so that reading it never fails.
 use native.Mathlib.Omega.{arith}
-use Rattle.fiber_types.proofs.RecordsLaws.{hash-len-small}
+use Rattle.fiber_types.proofs.RecordsLaws.{hash-len-small, whole-never}
 use Rattle.fiber_choice.specs.HandedOut.{choiceAmount}
-use Rattle.fiber_choice.proofs.HandedLaws.{place-amount, place-never, below-place, below-room}
+use Rattle.fiber_choice.proofs.HandedLaws.{place-whole, place-amount, below-place, below-room}
 use borrow.Author.Needs.{needs}
 use Rattle.fiber_output.proofs.output.amount_of.Statement.{statement}
 use Rattle.fiber_output.proofs.output.amount_of.Tie as tie
@@ -43,9 +43,11 @@ returns-3 c =
 returns-4 : tie.Need-returns-4
 returns-4 c =
     let s = c .before .before .before .before .before .before .before .before .before in
-    place-never (s .args .h) (s .args .tracked .now) _ (s .pre .0 .0)
+    whole-never
+    (place-whole (s .args .h) (s .args .tracked .now) _ (s .pre .0 .0)
     (below-place (s .args .h) (s .args .tracked .now) _ _ _ (s .pre .1) (c .before .before .before .before .choice2 .given .1))
-    _ (c .before .before .read .ensures) _ _ (c .enum-told3 .given .1)
+    _ (c .before .before .read .ensures))
+    _ _ (c .enum-told3 .given .1)
 
 pub amount-of-spec : {M : Type 1} → statement M
 amount-of-spec =

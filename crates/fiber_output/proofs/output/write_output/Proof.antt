@@ -7,7 +7,6 @@ use mathlib.Core.Logic.{inl, inr, ⊎-elim}
 use lib.ListN.{length}
 use Rattle.fiber_types.specs.Records.{witnessLen}
 use Rattle.fiber_types.proofs.RecordsLaws.{hash-len-small}
-use Rattle.fiber_choice.specs.HandedOut.{Picked}
 use Rattle.fiber_choice.proofs.HandedLaws.{unlock-most, state-small, within-tlcs, within-pairs, unlock-place, new-length, planned, handed-size, handed-short, handed-whole}
 use Rattle.fiber_output.proofs.output.write_output.Reads as reads
 use Rattle.fiber_output.proofs.output.write_output.Lts as lts
@@ -20,26 +19,15 @@ use Rattle.fiber_output.proofs.output.write_output.Statement.{statement
 use Rattle.fiber_output.proofs.output.write_output.Tie as tie
 
 -- the lengths of the unlock and of the new args
-unlocked : (c : lts.Joined1 (plan-of-reads.Asked, plan-of-reads.Learnt, put-joined-reads.Asked, put-joined-reads.Learnt, amount-of-reads.Asked, amount-of-reads.Learnt, record-size-reads.Asked, record-size-reads.Learnt) reads.Pre reads.Post) → c .if1 .unlock ≡ witnessLen (c .before .plan-of .result .flag)
+unlocked : (c : lts.Joined1 (plan-of-reads.Asked, plan-of-reads.Learnt, put-joined-reads.Asked, put-joined-reads.Learnt, amount-of-reads.Asked, amount-of-reads.Learnt, record-size-reads.Asked, record-size-reads.Learnt) reads.Pre reads.Post) → c .if1 .unlock-len ≡ witnessLen (c .before .plan-of .result .flag)
 unlocked c = unlock-place _ _ (⊎-elim (λ x. inl (x .0 .taken, x .1)) (λ x. inr (x .0 .left, x .1)) (c .if1 .came))
 
-newly : (c : lts.Joined2 (plan-of-reads.Asked, plan-of-reads.Learnt, put-joined-reads.Asked, put-joined-reads.Learnt, amount-of-reads.Asked, amount-of-reads.Learnt, record-size-reads.Asked, record-size-reads.Learnt) reads.Pre reads.Post) → c .if2 .new ≡ 57 + (length (c .before .before .before .before .before .before .before .args .args .now) - 57)
+newly : (c : lts.Joined2 (plan-of-reads.Asked, plan-of-reads.Learnt, put-joined-reads.Asked, put-joined-reads.Learnt, amount-of-reads.Asked, amount-of-reads.Learnt, record-size-reads.Asked, record-size-reads.Learnt) reads.Pre reads.Post) → c .if2 .args-len ≡ 57 + (length (c .before .before .before .before .before .before .before .args .args .now) - 57)
 newly c = new-length _ _ (⊎-elim (λ x. inl (x .0 .taken, x .1)) (λ x. inr (x .0 .left, x .1)) (c .if2 .came))
 
 -- the two shares are arrays of 36 bytes
 shares : (c : lts.Start (plan-of-reads.Asked, plan-of-reads.Learnt, put-joined-reads.Asked, put-joined-reads.Learnt, amount-of-reads.Asked, amount-of-reads.Learnt, record-size-reads.Asked, record-size-reads.Learnt) reads.Pre reads.Post) → (length (c .args .t5) ≡ 36) × (length (c .args .t6) ≡ 36)
 shares c = (search needs, search needs)
-
--- what was chosen
-abbrev picked : lts.Start (plan-of-reads.Asked, plan-of-reads.Learnt, put-joined-reads.Asked, put-joined-reads.Learnt, amount-of-reads.Asked, amount-of-reads.Learnt, record-size-reads.Asked, record-size-reads.Learnt) reads.Pre reads.Post → Picked
-picked s = record {
-  remote = s .args .t5;
-  local = s .args .t6;
-  choice = s .args .choice;
-  key = s .args .key;
-  delay = s .args .delay;
-  place = s .args .place;
-}
 
 -- h is small
 small : (c : lts.Start (plan-of-reads.Asked, plan-of-reads.Learnt, put-joined-reads.Asked, put-joined-reads.Learnt, amount-of-reads.Asked, amount-of-reads.Learnt, record-size-reads.Asked, record-size-reads.Learnt) reads.Pre reads.Post) → c .args .h ≤ 32
@@ -48,17 +36,17 @@ small c = hash-len-small (c .args .h) (c .pre .0 .0)
 add-n : tie.Need-add-n
 add-n c = omega (arith, small (c .before .before .before .before))
 
-add-state : tie.Need-add-state
-add-state c = omega (arith, small (c .before .before .before .before .before .before))
+add-state-len : tie.Need-add-state-len
+add-state-len c = omega (arith, small (c .before .before .before .before .before .before))
 
-mul-state : tie.Need-mul-state
-mul-state c =
+mul-state-len : tie.Need-mul-state-len
+mul-state-len c =
     let a = c .before .before .before .before .before .before .args in
     let q = c .before .before .before .before .before .before .pre in
     omega (arith, state-small (a .h) (a .tracked .now) (q .0 .1 .0) (hash-len-small (a .h) (q .0 .0)))
 
-add-state-2 : tie.Need-add-state-2
-add-state-2 c =
+add-state-len-2 : tie.Need-add-state-len-2
+add-state-len-2 c =
     let a = c .before .before .before .before .before .before .args in
     let q = c .before .before .before .before .before .before .pre in
     omega (arith, state-small (a .h) (a .tracked .now) (q .0 .1 .0) (hash-len-small (a .h) (q .0 .0)))
@@ -79,14 +67,14 @@ returns : tie.Need-returns
 returns c =
     let a = c .before .before .before .before .before .before .before .before .before .before .args in
     let q = c .before .before .before .before .before .before .before .before .before .before .pre in
-    handed-short (a .h) (a .args .now) (a .tracked .now) (a .preimages .now) (a .out .now) (picked (c .before .before .before .before .before .before .before .before .before .before)) _ (c .before .before .before .before .before .plan-of .ensures) (q .0 .1 .1) (shares (c .before .before .before .before .before .before .before .before .before .before) .0) (shares (c .before .before .before .before .before .before .before .before .before .before) .1) (within-pairs _ _ _ (q .1)) _ _ (unlocked (c .before .before .before .before)) (newly (c .before .before .before)) (c .if3 .taken)
+    handed-short (a .h) (a .args .now) (a .tracked .now) (a .preimages .now) (a .out .now) (a .t5) (a .t6) (a .choice) _ (c .before .before .before .before .before .plan-of .ensures) (q .0 .1 .1) (shares (c .before .before .before .before .before .before .before .before .before .before) .0) (shares (c .before .before .before .before .before .before .before .before .before .before) .1) (within-pairs _ _ _ (q .1)) (a .key) (a .delay) (a .place) _ _ (unlocked (c .before .before .before .before)) (newly (c .before .before .before)) (c .if3 .taken)
 
 put-joined-requires : tie.Need-put-joined-requires
 put-joined-requires c κs =
     let a = c .before .before .before .before .before .before .before .before .before .before .before .before .before .args in
     let q = c .before .before .before .before .before .before .before .before .before .before .before .before .before .pre in
-    let k = planned (a .h) (a .args .now) (a .tracked .now) (a .preimages .now) (a .out .now) (picked (c .before .before .before .before .before .before .before .before .before .before .before .before .before)) _ (c .before .before .before .before .before .before .before .before .plan-of .ensures) (q .0 .1 .1) (shares (c .before .before .before .before .before .before .before .before .before .before .before .before .before) .0) (shares (c .before .before .before .before .before .before .before .before .before .before .before .before .before) .1) (within-pairs _ _ _ (q .1)) (q .0 .1 .0) (within-tlcs _ _ _ (q .1)) in
-    ((hash-len-small (a .h) (q .0 .0), shares (c .before .before .before .before .before .before .before .before .before .before .before .before .before)), ((q .0 .1 .0, (q .0 .1 .1, k .0)), (k .1, omega (arith, c .before .before .before .if3 .left, handed-size (a .h) (a .args .now) (a .tracked .now) (a .preimages .now) (a .out .now) (picked (c .before .before .before .before .before .before .before .before .before .before .before .before .before)) _ (c .before .before .before .before .before .before .before .before .plan-of .ensures) (q .0 .1 .1) (shares (c .before .before .before .before .before .before .before .before .before .before .before .before .before) .0) (shares (c .before .before .before .before .before .before .before .before .before .before .before .before .before) .1) (within-pairs _ _ _ (q .1)) _ _ (unlocked (c .before .before .before .before .before .before .before)) (newly (c .before .before .before .before .before .before))))))
+    let k = planned (a .h) (a .args .now) (a .tracked .now) (a .preimages .now) (a .out .now) (a .t5) (a .t6) (a .choice) _ (c .before .before .before .before .before .before .before .before .plan-of .ensures) (q .0 .1 .1) (shares (c .before .before .before .before .before .before .before .before .before .before .before .before .before) .0) (shares (c .before .before .before .before .before .before .before .before .before .before .before .before .before) .1) (within-pairs _ _ _ (q .1)) (q .0 .1 .0) (within-tlcs _ _ _ (q .1)) in
+    ((hash-len-small (a .h) (q .0 .0), shares (c .before .before .before .before .before .before .before .before .before .before .before .before .before)), ((q .0 .1 .0, (q .0 .1 .1, k .0)), (k .1, omega (arith, c .before .before .before .if3 .left, handed-size (a .h) (a .args .now) (a .tracked .now) (a .preimages .now) (a .out .now) (a .t5) (a .t6) (a .choice) _ (c .before .before .before .before .before .before .before .before .plan-of .ensures) (q .0 .1 .1) (shares (c .before .before .before .before .before .before .before .before .before .before .before .before .before) .0) (shares (c .before .before .before .before .before .before .before .before .before .before .before .before .before) .1) (within-pairs _ _ _ (q .1)) (a .key) (a .delay) (a .place) _ _ (unlocked (c .before .before .before .before .before .before .before)) (newly (c .before .before .before .before .before .before))))))
 
 amount-of-requires : tie.Need-amount-of-requires
 amount-of-requires c κs =
@@ -101,7 +89,7 @@ returns-2 : tie.Need-returns-2
 returns-2 c =
     let a = c .before .before .before .before .before .before .before .before .before .before .before .before .before .before .before .before .before .before .before .before .args in
     let q = c .before .before .before .before .before .before .before .before .before .before .before .before .before .before .before .before .before .before .before .before .pre in
-    handed-whole (a .h) (a .args .now) (a .tracked .now) (a .preimages .now) (a .out .now) (picked (c .before .before .before .before .before .before .before .before .before .before .before .before .before .before .before .before .before .before .before .before)) _ (c .before .before .before .before .before .before .before .before .before .before .before .before .before .before .before .plan-of .ensures) (q .0 .1 .1) (shares (c .before .before .before .before .before .before .before .before .before .before .before .before .before .before .before .before .before .before .before .before) .0) (shares (c .before .before .before .before .before .before .before .before .before .before .before .before .before .before .before .before .before .before .before .before) .1) (within-pairs _ _ _ (q .1)) _ _ (unlocked (c .before .before .before .before .before .before .before .before .before .before .before .before .before .before)) (newly (c .before .before .before .before .before .before .before .before .before .before .before .before .before)) (c .before .before .before .before .before .before .before .before .before .before .if3 .left) _ _ _ (c .before .amount-of .ensures) (c .record-size .ensures) (c .before .before .before .before .before .before .put-joined .ensures)
+    handed-whole (a .h) (a .args .now) (a .tracked .now) (a .preimages .now) (a .out .now) (a .t5) (a .t6) (a .choice) _ (c .before .before .before .before .before .before .before .before .before .before .before .before .before .before .before .plan-of .ensures) (q .0 .1 .1) (shares (c .before .before .before .before .before .before .before .before .before .before .before .before .before .before .before .before .before .before .before .before) .0) (shares (c .before .before .before .before .before .before .before .before .before .before .before .before .before .before .before .before .before .before .before .before) .1) (within-pairs _ _ _ (q .1)) (a .key) (a .delay) (a .place) _ _ (unlocked (c .before .before .before .before .before .before .before .before .before .before .before .before .before .before)) (newly (c .before .before .before .before .before .before .before .before .before .before .before .before .before)) (c .before .before .before .before .before .before .before .before .before .before .if3 .left) _ _ _ (c .before .amount-of .ensures) (c .record-size .ensures) (c .before .before .before .before .before .before .put-joined .ensures)
 
 pub write-output-spec : {M : Type 1} → statement M
 write-output-spec =
@@ -110,9 +98,9 @@ write-output-spec =
     add-n
     (λ c. search needs)
     (λ c κs. search needs)
-    add-state
-    mul-state
-    add-state-2
+    add-state-len
+    mul-state-len
+    add-state-len-2
     add-size
     add-size-2
     returns

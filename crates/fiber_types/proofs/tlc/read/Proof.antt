@@ -24,7 +24,7 @@ returns-4 : tie.Need-returns-4
 returns-4 c =
     let s = c .before .before .before .before .before .before in
     let a = s .before .before .args in
-    ap tlc·.Record (tlc-fields (a .h) (a .s .now) (a .at) _ _ _ refl (c .before .amount-at .ensures) (c .le64 .ensures))
+    ap tlc·.Whole (tlc-fields (a .h) (a .s .now) (a .at) _ _ _ refl (c .before .amount-at .ensures) (c .le64 .ensures))
     ∙ sym (tlc-whole (a .h) (a .s .now) (a .at) (sym (s .valid-hash-len .ensures) ∙ not-false _ (c .before .before .before .before .before .if1 .left)) (search needs))
 
 pub read-spec : {M : Type 1} → statement M

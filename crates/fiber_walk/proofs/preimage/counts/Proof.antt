@@ -12,10 +12,10 @@ returns : tie.Need-returns
 unfolding countsAt
 returns c =
     let s = c .before .before .before .before .before .before .before .before in
-    rw (pair-preimage (s .args .preimages .now) (s .args .pair) (s .pre .0))
+    rw (pair-preimage (s .args .preimages .now) (s .args .pair-place) (s .pre .0))
     (c .same .ensures
     ∙ ap₂ same
-    (c .before .before .before .digest .ensures ∙ ap (digest (getD (s .args .tracked .now) 32 0)) (c .before .before .before .before .part-of .ensures))
+    (c .before .before .before .digest .ensures ∙ ap (digest (getD (s .args .tracked-tlc .now) 32 0)) (c .before .before .before .before .part-of .ensures))
     (c .before .part-of2 .ensures))
 
 pub counts-spec : {M : Type 1} → statement M

@@ -3,17 +3,16 @@
 use Prim.Native.Nat.{_-_}
 use mathlib.Core.Path.{refl, sym, ap, _∙_}
 use native.Mathlib.Omega.{arith}
-use Rattle.fiber_choice.specs.Entries.{same, entries, pairLen}
-use Rattle.fiber_choice.specs.Preimages.{findPair}
+use Rattle.fiber_choice.specs.Entries.{same, entries, findFirst, pairLen}
 use Rattle.fiber_witness.proofs.UpdateLaws.{part-between}
-use Rattle.fiber_choice.proofs.EntriesLaws.{Along, along-start, along-room}
-use Rattle.fiber_choice.proofs.PreimagesLaws.{pair-none, pair-found, pair-more}
+use Rattle.fiber_choice.proofs.EntriesLaws.{Along, along-start, along-room, finding-end, finding-this, finding-more}
+use Rattle.fiber_choice.proofs.PreimagesLaws.{hasHash, find-by, pair-hash}
 use borrow.Author.Needs.{needs}
 use Rattle.fiber_walk.proofs.preimage.find_pair.Statement.{statement}
 use Rattle.fiber_walk.proofs.preimage.find_pair.Tie as tie
 
 abbrev Inv-loop : tie.InvT-loop
-Inv-loop preimages hash n at₀ i₀ at i = Along pairLen preimages (λ es. findPair i es hash) (findPair 0 (entries pairLen preimages) hash) at i
+Inv-loop preimages hash n at₀ i₀ at i = Along pairLen preimages (findFirst (hasHash hash) i) (findFirst (hasHash hash) 0 (entries pairLen preimages)) at i
 
 abbrev μ-loop : tie.MeasureT-loop
 μ-loop preimages hash n at₀ i₀ at i = n - i
@@ -31,8 +30,9 @@ returns : tie.Need-returns Inv-loop μ-loop
 returns c =
     let l = c .before .before .before .before .loop in
     let a = c .before .before .before .before .before .before .before .args in
-    pair-found (a .preimages .now) (a .hash .now) _ _ _ (l .inv) (c .before .before .before .loop-test .taken)
-    (ap (λ s. same s (a .hash .now)) (sym (part-between (a .preimages .now) (l .at) 32)) ∙ sym (c .before .same .ensures) ∙ c .if1 .taken)
+    finding-this (hasHash (a .hash .now)) pairLen (a .preimages .now) _ (l .at) (l .i) (l .inv) (c .before .before .before .loop-test .taken)
+    (ap (λ s. same s (a .hash .now)) (pair-hash (a .preimages .now) (l .at) ∙ sym (part-between (a .preimages .now) (l .at) 32)) ∙ sym (c .before .same .ensures) ∙ c .if1 .taken)
+    ∙ find-by _ (a .hash .now)
 
 add-at : tie.Need-add-at Inv-loop μ-loop
 add-at c = omega (arith, along-room _ _ _ _ _ _ (c .before .before .before .before .loop .inv) (c .before .before .before .loop-test .taken))
@@ -41,11 +41,11 @@ loop-again : tie.Need-loop-again Inv-loop μ-loop
 loop-again c =
     let l = c .before .before .before .before .loop in
     let a = c .before .before .before .before .before .before .before .args in
-    pair-more (a .preimages .now) (a .hash .now) _ _ _ (l .inv) (c .before .before .before .loop-test .taken)
-    (ap (λ s. same s (a .hash .now)) (sym (part-between (a .preimages .now) (l .at) 32)) ∙ sym (c .before .same .ensures) ∙ c .if1 .left)
+    finding-more (hasHash (a .hash .now)) pairLen (a .preimages .now) _ (l .at) (l .i) (l .inv) (c .before .before .before .loop-test .taken)
+    (ap (λ s. same s (a .hash .now)) (pair-hash (a .preimages .now) (l .at) ∙ sym (part-between (a .preimages .now) (l .at) 32)) ∙ sym (c .before .same .ensures) ∙ c .if1 .left)
 
 returns-2 : tie.Need-returns-2 Inv-loop μ-loop
-returns-2 c = pair-none _ _ _ _ _ (c .before .loop .inv) (c .loop-test .left)
+returns-2 c = finding-end _ _ _ _ _ _ (c .before .loop .inv) (c .loop-test .left) ∙ find-by _ _
 
 pub find-pair-spec : {M : Type 1} → statement M
 find-pair-spec =

@@ -1,6 +1,5 @@
 -- Both tests of the definition.
 use Rattle.fiber_choice.specs.Walk.{timeoutKind}
-use Rattle.fiber_choice.proofs.VerdictsLaws.{not-cond}
 use Rattle.fiber_walk.proofs.slot.timeout_kind.Statement.{statement}
 use Rattle.fiber_walk.proofs.slot.timeout_kind.Tie as tie
 
@@ -10,7 +9,7 @@ returns c = rw (c .if1 .taken)
 
 returns-2 : tie.Need-returns-2
 unfolding timeoutKind
-returns-2 c = rw (c .if1 .left) (not-cond (c .before .args .offered))
+returns-2 c = rw (c .if1 .left)
 
 pub timeout-kind-spec : {M : Type 1} → statement M
 timeout-kind-spec = tie.close (tie.spec returns returns-2)

@@ -36,7 +36,7 @@ returns-5 c =
     let p = c .before .before .before .before in
     let k = p .before .before .before .before in
     step-as _ _ _ _ _ _ (c .ready-step .ensures _ _)
-    (first-ready _ _ _ _ _ _ _ (k .timeout-kind .ensures) (p .before .before .before .if1 .left) (not-false _ (p .before .if3 .left)) _ (p .counting-pair .ensures) _ (c .before .before .pair .given .1))
+    (first-ready _ _ _ _ _ _ _ (k .timeout-kind .ensures) (p .before .before .before .if1 .left) (not-false _ (p .before .if3 .left)) _ (p .counting-pair .ensures) _ (c .before .before .pair-place .given .1))
 
 returns-6 : tie.Need-returns-6
 returns-6 c =

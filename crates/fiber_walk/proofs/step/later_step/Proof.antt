@@ -2,11 +2,11 @@
 -- What is read of the record is read of the tracked TLC behind its first 33 bytes; it is whole, so that reading it never fails.
 use mathlib.Core.Path.{_∙_}
 use mathlib.Core.Bool.{true, false}
-use Rattle.fiber_types.proofs.RecordsLaws.{hash-len-small}
+use Rattle.fiber_types.proofs.RecordsLaws.{whole-is, whole-never, hash-len-small}
 use Rattle.fiber_choice.specs.Walk.{noExpiry}
 use Rattle.fiber_choice.specs.Entries.{entries, pairLen}
 use Rattle.fiber_choice.specs.Preimages.{countingPair}
-use Rattle.fiber_choice.proofs.VerdictsLaws.{record-of, read-tlc, read-never, step-as, step-passed, later-none, later-kind}
+use Rattle.fiber_choice.proofs.VerdictsLaws.{record-of, read-there, step-as, step-passed, later-none, later-kind}
 use borrow.Author.Needs.{needs}
 use Rattle.fiber_walk.proofs.step.later_step.Statement.{statement}
 use Rattle.fiber_walk.proofs.step.later_step.Tie as tie
@@ -15,15 +15,15 @@ returns : tie.Need-returns
 returns c =
     let b = c .before .before .before in
     let s = b .before .before .before .before in
-    read-never (s .args .h) (s .args .tracked .now) _ (s .pre .0) (s .pre .1 .0) (b .part-of .ensures) _ (c .before .before .read .ensures) _ _ (c .enum-told .given .1)
+    whole-never (read-there (s .args .h) (s .args .tracked-tlc .now) _ (s .pre .0) (s .pre .1 .0) (b .part-of .ensures) _ (c .before .before .read .ensures)) _ _ (c .enum-told .given .1)
 
 returns-2 : tie.Need-returns-2
 returns-2 c =
     let b = c .before .before .before .before .before .before .before in
     let s = b .before .before .before .before in
     step-as _ _ _ _ _ _ (step-passed _ _ _ noExpiry)
-    (later-none _ _ _ _ (s .args .tracked .now) _
-    (read-tlc (s .args .h) (s .args .tracked .now) _ (s .pre .0) (s .pre .1 .0) (b .part-of .ensures) _ (c .before .before .before .before .before .before .read .ensures) _ (c .before .before .before .before .tlc .given .1))
+    (later-none _ _ _ _ (s .args .tracked-tlc .now) _
+    (whole-is (read-there (s .args .h) (s .args .tracked-tlc .now) _ (s .pre .0) (s .pre .1 .0) (b .part-of .ensures) _ (c .before .before .before .before .before .before .read .ensures)) _ (c .before .before .before .before .tlc .given .1))
     _ (c .before .before .absolute-expiry .ensures) (c .enum-told2 .given .1))
 
 later-timeout-requires : tie.Need-later-timeout-requires
@@ -36,10 +36,10 @@ returns-3 c =
     let x = c .before .before .before .before .before .before .before in
     let b = c .before .before .before .before .before .before .before .before .before .before .before .before in
     let s = b .before .before .before .before in
-    let r = b .part-of .ensures ∙ record-of (s .args .tracked .now) (s .args .h) (s .pre .1 .0) in
-    step-as _ _ _ _ _ _ (rw r at (c .later-timeout .ensures (countingPair (entries pairLen (s .args .preimages .now)) (s .args .tracked .now))))
-    (later-kind _ _ _ _ (s .args .tracked .now) _
-    (read-tlc (s .args .h) (s .args .tracked .now) _ (s .pre .0) (s .pre .1 .0) (b .part-of .ensures) _ (c .before .before .before .before .before .before .before .before .before .before .before .read .ensures) _ (c .before .before .before .before .before .before .before .before .before .tlc .given .1))
+    let r = b .part-of .ensures ∙ record-of (s .args .tracked-tlc .now) (s .args .h) (s .pre .1 .0) in
+    step-as _ _ _ _ _ _ (rw r at (c .later-timeout .ensures (countingPair (entries pairLen (s .args .preimages .now)) (s .args .tracked-tlc .now))))
+    (later-kind _ _ _ _ (s .args .tracked-tlc .now) _
+    (whole-is (read-there (s .args .h) (s .args .tracked-tlc .now) _ (s .pre .0) (s .pre .1 .0) (b .part-of .ensures) _ (c .before .before .before .before .before .before .before .before .before .before .before .read .ensures)) _ (c .before .before .before .before .before .before .before .before .before .tlc .given .1))
     _ (x .absolute-expiry .ensures) _ _ _ true (c .before .before .before .before .before .ms .given .1) (c .before .before .before .is-offered .ensures) (c .before .before .timeout-kind .ensures) (c .before .if1 .taken))
 
 later-preimage-requires : tie.Need-later-preimage-requires
@@ -53,8 +53,8 @@ returns-4 c =
     let b = c .before .before .before .before .before .before .before .before .before .before .before .before in
     let s = b .before .before .before .before in
     step-as _ _ _ _ _ _ (c .later-preimage .ensures)
-    (later-kind _ _ _ _ (s .args .tracked .now) _
-    (read-tlc (s .args .h) (s .args .tracked .now) _ (s .pre .0) (s .pre .1 .0) (b .part-of .ensures) _ (c .before .before .before .before .before .before .before .before .before .before .before .read .ensures) _ (c .before .before .before .before .before .before .before .before .before .tlc .given .1))
+    (later-kind _ _ _ _ (s .args .tracked-tlc .now) _
+    (whole-is (read-there (s .args .h) (s .args .tracked-tlc .now) _ (s .pre .0) (s .pre .1 .0) (b .part-of .ensures) _ (c .before .before .before .before .before .before .before .before .before .before .before .read .ensures)) _ (c .before .before .before .before .before .before .before .before .before .tlc .given .1))
     _ (x .absolute-expiry .ensures) _ _ _ false (c .before .before .before .before .before .ms .given .1) (c .before .before .before .is-offered .ensures) (c .before .before .timeout-kind .ensures) (c .before .if1 .left))
 
 pub later-step-spec : {M : Type 1} → statement M

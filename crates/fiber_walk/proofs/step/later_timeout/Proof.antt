@@ -7,13 +7,13 @@ use Rattle.fiber_walk.proofs.step.later_timeout.Statement.{statement}
 use Rattle.fiber_walk.proofs.step.later_timeout.Tie as tie
 
 returns : tie.Need-returns
-returns c pair = timeout-early _ _ _ _ (c .if1 .taken) pair _
+returns c foundPair = timeout-early _ _ _ _ (c .if1 .taken) foundPair _
 
 returns-2 : tie.Need-returns-2
-returns-2 c pair = step-as _ _ _ _ _ _ (c .timeout-step .ensures) (key-timeout _ pair _ _ (sym (c .before .before .key .given .1) ∙ c .before .before .before .before .key-of .ensures))
+returns-2 c foundPair = step-as _ _ _ _ _ _ (c .timeout-step .ensures) (key-timeout _ foundPair _ _ (sym (c .before .before .key .given .1) ∙ c .before .before .before .before .key-of .ensures))
 
 returns-3 : tie.Need-returns-3
-returns-3 c pair = step-as _ _ _ _ _ _ (step-passed _ _ _ noKey) (key-missing _ pair _ _ (sym (c .enum-told .given .1) ∙ c .before .before .key-of .ensures))
+returns-3 c foundPair = step-as _ _ _ _ _ _ (step-passed _ _ _ noKey) (key-missing _ foundPair _ _ (sym (c .enum-told .given .1) ∙ c .before .before .key-of .ensures))
 
 pub later-timeout-spec : {M : Type 1} → statement M
 later-timeout-spec =

@@ -47,7 +47,7 @@ array-write-marks c = omega (arith, c .before .before .before .before .shared-sl
 here : (c : tie.Joined1 Inv-loop μ-loop)
     → (let a = c .before .before .before .before .before .before .args in
     let l = c .before .before .before .loop in
-    Taking (a .n) (a .w .now) (a .first) (c .if1 .marks) (c .if1 .remote) (c .if1 .local) (l .at + unlockLen (a .w .now) (l .at)))
+    Taking (a .n) (a .w .now) (a .first-unlock) (c .if1 .marks) (c .if1 .remote) (c .if1 .local) (l .at + unlockLen (a .w .now) (l .at)))
 here c =
     let l = c .before .before .before .loop in
     ⊎-elim

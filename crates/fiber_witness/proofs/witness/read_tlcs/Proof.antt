@@ -7,13 +7,13 @@ use borrow.Author.Needs.{needs}
 use Rattle.fiber_witness.proofs.witness.read_tlcs.Statement.{statement}
 use Rattle.fiber_witness.proofs.witness.read_tlcs.Tie as tie
 
-mul-share : tie.Need-mul-share
-mul-share c =
+mul-share-place : tie.Need-mul-share-place
+mul-share-place c =
     let a = c .before .args in
     omega (arith, share-small (a .h) (a .w .now) (a .n) (omega arith) (omega arith))
 
-add-share : tie.Need-add-share
-add-share c =
+add-share-place : tie.Need-add-share-place
+add-share-place c =
     let a = c .before .args in
     omega (arith, share-small (a .h) (a .w .now) (a .n) (omega arith) (omega arith))
 
@@ -41,8 +41,8 @@ read-tlcs-spec =
     tie.close
     (tie.spec
     (λ c. search needs)
-    mul-share
-    add-share
+    mul-share-place
+    add-share-place
     (λ c. search needs)
     (λ c. search needs)
     mul-t9

@@ -10,10 +10,10 @@ use Rattle.fiber_witness.proofs.witness.read_unlocks.Statement.{stateme
 use Rattle.fiber_witness.proofs.witness.read_unlocks.Tie as tie
 
 abbrev Inv-loop : tie.InvT-loop
-Inv-loop w n share first at₀ unlocks₀ at unlocks = Reading w n share at unlocks
+Inv-loop w n sharePlace firstUnlock at₀ unlockCount₀ at unlockCount = Reading w n sharePlace at unlockCount
 
 abbrev μ-loop : tie.MeasureT-loop
-μ-loop w n share first at₀ unlocks₀ at unlocks = length w - at
+μ-loop w n sharePlace firstUnlock at₀ unlockCount₀ at unlockCount = length w - at
 
 loop-holds : tie.Need-loop-holds Inv-loop μ-loop
 loop-holds c = reading-start _ _ _ (c .before .pre)
@@ -26,8 +26,8 @@ loop-again c =
 add-at : tie.Need-add-at Inv-loop μ-loop
 add-at c = omega (arith, loop-again c .room)
 
-add-unlocks : tie.Need-add-unlocks Inv-loop μ-loop
-add-unlocks c = omega (arith, loop-again c .room, loop-again c .few)
+add-unlock-count : tie.Need-add-unlock-count Inv-loop μ-loop
+add-unlock-count c = omega (arith, loop-again c .room, loop-again c .few)
 
 loop-less : tie.Need-loop-less Inv-loop μ-loop
 loop-less c =
@@ -54,7 +54,7 @@ read-unlocks-spec =
     (λ c. search needs)
     (λ c κs. search needs)
     add-at
-    add-unlocks
+    add-unlock-count
     loop-less
     loop-again
     (λ c. search needs)

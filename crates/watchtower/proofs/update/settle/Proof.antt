@@ -5,7 +5,7 @@ use Prim.Native.Nat.{_+_}
 use mathlib.Core.Path.{sym, ap, _∙_}
 use lib.ListN.{length}
 use Rattle.fiber_bytes.proofs.BytesLaws.{part-length}
-use Rattle.fiber_witness.specs.inner.Strided.{sharePlace}
+use Rattle.fiber_witness.specs.inner.Strided.{behindTlcs}
 use Rattle.fiber_witness.proofs.UpdateLaws.{part-between, counted, counted-room, counted-flat, counted-size, settled-refused, settled-short, settled-written}
 use Rattle.fiber_witness.proofs.StridedLaws.{unmarked-standing, unmarked-left}
 use borrow.Author.Needs.{needs}
@@ -35,17 +35,17 @@ put-state-requires c κs =
     let s = b .before .before .before .before .before .before .before in
     let a = s .args in
     let w = a .w .now in
-    let share = sharePlace (a .h) (a .n) in
+    let sharePlace = behindTlcs (a .h) (a .n) in
     let e = unmarked-standing (a .h) w (a .n) (b .before .before .before .before .take-unlocks .result .marks) in
-    let r = part-length w share 36 (omega (arith, s .pre)) in
-    let l = part-length w (share + 36) 36 (omega (arith, s .pre)) in (
+    let r = part-length w sharePlace 36 (omega (arith, s .pre)) in
+    let l = part-length w (sharePlace + 36) 36 (omega (arith, s .pre)) in (
       (s .pre .0 .0, (s .pre .0 .1, omega (arith, s .pre))),
       (
         omega (arith, s .pre),
         (
           counted (a .h) w (a .n) _ _ (b .count-standing .ensures) ∙ ap length (sym e),
           (
-            (ap length (part-between w share 36) ∙ r, ap length (part-between w (share + 36) 36) ∙ l),
+            (ap length (part-between w sharePlace 36) ∙ r, ap length (part-between w (sharePlace + 36) 36) ∙ l),
             rw e (omega (arith, c .before .before .before .if1 .left, counted-flat (a .h) w (a .n) _ _ (b .count-standing .ensures) (omega (arith, s .pre)))),
           ),
         ),
@@ -63,7 +63,7 @@ returns-3 c =
     settled-written (s .args .h) (s .args .w .now) (s .args .out .now) (s .args .n) _ _ _ _ _ _ (b .before .before .before .before .take-unlocks .ensures _) (b .before .enum-told .given .1) _
     (counted-size (s .args .h) (s .args .w .now) (s .args .n) _ _ (b .count-standing .ensures) _ _ (s .pre .1))
     (c .before .before .before .before .before .before .if1 .left) _
-    (unmarked-left (s .args .h) (s .args .w .now) (s .args .n) (sharePlace (s .args .h) (s .args .n)) _ _ _ _ _ (c .before .before .put-state .ensures .1))
+    (unmarked-left (s .args .h) (s .args .w .now) (s .args .n) (behindTlcs (s .args .h) (s .args .n)) _ _ _ _ _ (c .before .before .put-state .ensures .1))
 
 pub settle-spec : {M : Type 1} → statement M
 settle-spec =

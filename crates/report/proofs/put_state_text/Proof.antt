@@ -7,8 +7,8 @@ use lib.Seq.{length-sets}
 use Rattle.report.specs.Report.{stateText}
 use Rattle.report.proofs.ReportLaws.{state-in, share-fits, state-text}
 use borrow.Author.Needs.{needs}
-use Rattle.report.proofs.put_state.Statement.{statement}
-use Rattle.report.proofs.put_state.Tie as tie
+use Rattle.report.proofs.put_state_text.Statement.{statement}
+use Rattle.report.proofs.put_state_text.Tie as tie
 
 put-tlc-lines-requires : tie.Need-put-tlc-lines-requires
 put-tlc-lines-requires c κs =
@@ -46,8 +46,8 @@ same-length c =
     let a = c .before .before .before .before .before .before .before .before .before .before .before .before .before .before .before .before .before .before .before .before .before .before .before .before .before .before .before .before .before .before .before .before .before .before .args in
     ap length (returns c .1) ∙ length-sets (a .out .now) 0 (stateText (a .h) (a .state .now))
 
-pub put-state-spec : {M : Type 1} → statement M
-put-state-spec =
+pub put-state-text-spec : {M : Type 1} → statement M
+put-state-text-spec =
     tie.close
     (tie.spec
     (λ c. search needs)

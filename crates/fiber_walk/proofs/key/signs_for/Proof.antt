@@ -4,8 +4,8 @@ use Rattle.fiber_types.specs.declared.key.KeyHash.{KeyHash}
 use Rattle.fiber_types.specs.Key.{keyHash}
 use Rattle.fiber_choice.specs.Entries.{same}
 use borrow.Author.Needs.{needs}
-use Rattle.fiber_walk.proofs.key.is_key.Statement.{statement}
-use Rattle.fiber_walk.proofs.key.is_key.Tie as tie
+use Rattle.fiber_walk.proofs.key.signs_for.Statement.{statement}
+use Rattle.fiber_walk.proofs.key.signs_for.Tie as tie
 
 returns : tie.Need-returns
 returns c =
@@ -14,8 +14,8 @@ returns c =
     ∙ ap (λ (k : KeyHash). same (k .bytes) (s .ours .now))
     (c .before .before .before .key-hash .ensures ∙ ap keyHash (c .before .before .before .before .part-of .ensures))
 
-pub is-key-spec : {M : Type 1} → statement M
-is-key-spec =
+pub signs-for-spec : {M : Type 1} → statement M
+signs-for-spec =
     tie.close
     (tie.spec
     (λ c κs. search needs)
