@@ -82,5 +82,5 @@ validRequest q =
 unfoldable pub delayOf : List ℕ → Scaled
 delayOf args =
     let s = since (le (part args 20 8)) in
-    let none = scaled·.Refused 11 0 in
-    cond (ltb (length args) 36) (scaled·.Refused 10 0) (cond (s .relative) (byMetric (scaled·.Epoch (epochOf (s .value))) none none (s .metric)) none)
+    let noEpoch = scaled·.Refused 11 0 in
+    cond (ltb (length args) 36) (scaled·.Refused 10 0) (cond (s .relative) (byMetric (scaled·.Epoch (epochOf (s .value))) noEpoch noEpoch (s .metric)) noEpoch)

@@ -65,7 +65,7 @@ stateLeft h w n sharePlace t =
 -- ---- the update
 
 unfoldable pub byRead : List ℕ → WitnessRead → Unlocked
-byRead w (read·.Whole n k sharePlace first) = takeUnlocks n sharePlace w none (places w first)
+byRead w (read·.Whole n unlockCount sharePlace firstUnlock) = takeUnlocks n sharePlace w none (places w firstUnlock)
 byRead w (read·.Refused number place) = faulty number place
 
 -- read, then take the unlocks in order

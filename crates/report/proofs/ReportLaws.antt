@@ -19,7 +19,7 @@ use Rattle.fiber_types.specs.Records.{Outcome, unwritten}
 use Rattle.fiber_witness.specs.Witness.{recordLen, chunks}
 use Rattle.fiber_witness.specs.Update.{updated}
 use Rattle.fiber_witness.proofs.LeftLaws as left·
-use Rattle.report.specs.Report.{digitsWithin, decimal, hexDigit, hex, hexHighest, tlcLine, tlcLines, shareLine, refusedText, stateText, reported, ascii, settled, textOf, Prints}
+use Rattle.report.specs.Report.{digitsWithin, decimal, hexDigit, hex, hexHighest, tlcLine, tlcLines, shareLine, refusedText, stateText, reported, ascii, ofInput, textOf, Prints}
 use Rattle.report.specs.inner.Hex.{hexBy}
 use Rattle.fiber_witness.proofs.WitnessLaws.{records-none, records-more}
 
@@ -424,31 +424,31 @@ text-short h s a b =
 
 module _ (input buffer out : List ℕ) where
   -- what is printed, by what the input comes to
-  says : (x : Outcome Written) → settled input buffer ≡ x → (r : ℕ) (after b : List ℕ)
+  says : (x : Outcome Written) → ofInput input buffer ≡ x → (r : ℕ) (after b : List ℕ)
       → (r ≡ length (textOf (getD input 0 0) (x .bytes) (x .answer))) × (after ≡ sets out 0 (textOf (getD input 0 0) (x .bytes) (x .answer))) → b ≡ x .bytes
       → Prints (reported input buffer) out r after b
   unfolding reported
   says x e r after b c d = rw e (c .0, (c .1, d))
 
   -- an input that is turned down before the update
-  says-untaken : settled input buffer ≡ unwritten (written·.Refused 14 0) buffer → (r : ℕ) (o : List ℕ) → (r ≡ length (refusedText 14 0)) × (o ≡ sets out 0 (refusedText 14 0))
+  says-untaken : ofInput input buffer ≡ unwritten (written·.Refused 14 0) buffer → (r : ℕ) (o : List ℕ) → (r ≡ length (refusedText 14 0)) × (o ≡ sets out 0 (refusedText 14 0))
       → Prints (reported input buffer) out r o buffer
   unfolding textOf
   says-untaken u r o e = says _ u r o buffer e refl
 
   pub says-none : length input < 1 → (r : ℕ) (o : List ℕ) → (r ≡ length (refusedText 14 0)) × (o ≡ sets out 0 (refusedText 14 0)) → Prints (reported input buffer) out r o buffer
-  unfolding settled
+  unfolding ofInput
   says-none f = says-untaken (go input f)
     where
-      go : (i : List ℕ) → length i < 1 → settled i buffer ≡ unwritten (written·.Refused 14 0) buffer
+      go : (i : List ℕ) → length i < 1 → ofInput i buffer ≡ unwritten (written·.Refused 14 0) buffer
       go [] g = refl
       go (x ∷ i) g = absurd (omega arith)
 
   pub says-long : 65536 < length input → (r : ℕ) (o : List ℕ) → (r ≡ length (refusedText 14 0)) × (o ≡ sets out 0 (refusedText 14 0)) → Prints (reported input buffer) out r o buffer
-  unfolding settled
+  unfolding ofInput
   says-long f = says-untaken (go input f)
     where
-      go : (i : List ℕ) → 65536 < length i → settled i buffer ≡ unwritten (written·.Refused 14 0) buffer
+      go : (i : List ℕ) → 65536 < length i → ofInput i buffer ≡ unwritten (written·.Refused 14 0) buffer
       go [] g = refl
       go (x ∷ i) g = rw (lt-ltb 65536 (1 + length i) (omega arith))
 
@@ -456,11 +456,11 @@ module _ (input buffer out : List ℕ) where
     abbrev done : Outcome Written
     done = updated (getD input 0 0) w buffer
 
-    taken : settled input buffer ≡ done
-    unfolding settled
+    taken : ofInput input buffer ≡ done
+    unfolding ofInput
     taken = rw e (go input f g)
       where
-        go : (i : List ℕ) → 1 ≤ length i → length i ≤ 65536 → settled i buffer ≡ updated (getD i 0 0) (take (length i - 1) (drop 1 i)) buffer
+        go : (i : List ℕ) → 1 ≤ length i → length i ≤ 65536 → ofInput i buffer ≡ updated (getD i 0 0) (take (length i - 1) (drop 1 i)) buffer
         go [] l m = absurd (omega arith)
         go (x ∷ i) l m =
             let a : take (length (x ∷ i) - 1) i ≡ i = take-all (length (x ∷ i) - 1) i (omega arith) in

@@ -79,9 +79,9 @@ stateText h s =
 -- ---- the report
 
 -- the input: one byte h, then the witness; 14 at 0 above 65,536 bytes in all, or for none
-unfoldable pub settled : List ℕ → List ℕ → Outcome Written
-settled [] buffer = unwritten (written·.Refused 14 0) buffer
-settled (h ∷ w) buffer = cond (ltb 65536 (1 + length w)) (unwritten (written·.Refused 14 0) buffer) (updated h w buffer)
+unfoldable pub ofInput : List ℕ → List ℕ → Outcome Written
+ofInput [] buffer = unwritten (written·.Refused 14 0) buffer
+ofInput (h ∷ w) buffer = cond (ltb 65536 (1 + length w)) (unwritten (written·.Refused 14 0) buffer) (updated h w buffer)
 
 unfoldable pub textOf : ℕ → List ℕ → Written → List ℕ
 textOf h buffer (written·.Bytes len) = stateText h (take len buffer)
@@ -90,7 +90,7 @@ textOf h buffer (written·.Refused number place) = refusedText number place
 -- the text, and the buffer for the updated state as it is left
 unfoldable pub reported : List ℕ → List ℕ → Outcome (List ℕ)
 reported input buffer =
-    let o = settled input buffer in
+    let o = ofInput input buffer in
     record { answer = textOf (getD input 0 0) (o .bytes) (o .answer); bytes = o .bytes }
 
 -- a text's length, the output with it at its front, and that buffer
