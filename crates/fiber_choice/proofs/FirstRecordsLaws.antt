@@ -63,8 +63,8 @@ module _ (h : ℕ) (b : Bool) (t : List ℕ) (k : validHashLen h ≡ true) (n : 
       ap (λ (q : List ℕ). part q 0 m) e
       ∙ sets-back (replicate 97 0) (firstRecord h b t) 0 m (f ∙ sym first-length) (omega (arith, first-length, hash-len-small h k))
 
-  -- what `tlc::write` leaves of its parts in that array
-  module _ (out′ : List ℕ) (x : Amount) (z : ℕ) (ex : x ≡ amountAt t 2) (ez : z ≡ le (part t 50 8))
+  -- what `tlc::write` leaves of its parts
+  module _ (out out′ : List ℕ) (r : recordLen h ≤ length out) (x : Amount) (z : ℕ) (ex : x ≡ amountAt t 2) (ez : z ≡ le (part t 50 8))
       (H l m : List ℕ) (L M : KeyHash) (eH : H ≡ part t 18 h) (el : l ≡ localKey t) (eL : L ≡ keyHash l) (em : m ≡ remoteKey t) (eM : M ≡ keyHash m) where
     abbrev put : Tlc
     put = record { kind = getD t 1 0 * 2 + getD t 0 0; amount = x; expiry = 2 ^ 62 + z / 1000 }
@@ -75,8 +75,8 @@ module _ (h : ℕ) (b : Bool) (t : List ℕ) (k : validHashLen h ≡ true) (n : 
     remote-hash : M .bytes ≡ hashOf (remoteKey t)
     remote-hash = ap (λ (q : KeyHash). q .bytes) eM ∙ ap hashOf em
 
-    wrote : (A B : List ℕ) → A ≡ hashOf (cond b (remoteKey t) (localKey t)) → B ≡ hashOf (cond b (localKey t) (remoteKey t)) → out′ ≡ wroteTlc put H A B (replicate 97 0) .bytes
-        → out′ ≡ sets (replicate 97 0) 0 (firstRecord h b t)
+    wrote : (A B : List ℕ) → A ≡ hashOf (cond b (remoteKey t) (localKey t)) → B ≡ hashOf (cond b (localKey t) (remoteKey t)) → out′ ≡ wroteTlc put H A B out .bytes
+        → out′ ≡ sets out 0 (firstRecord h b t)
     unfolding firstRecord
     wrote A B eA eB w =
         let nH : length H ≡ h = ap length (eH ∙ first-hash) ∙ first-hash-length in
@@ -84,15 +84,15 @@ module _ (h : ℕ) (b : Bool) (t : List ℕ) (k : validHashLen h ≡ true) (n : 
         let nA : length A ≡ 20 = ap length eA ∙ key-length (cond b (remoteKey t) (localKey t)) in
         let nB : length B ≡ 20 = ap length eB ∙ key-length (cond b (localKey t) (remoteKey t)) in
         w
-        ∙ sym (tlc-written put H A B (replicate 97 0) kH nA nB (omega (arith, hash-len-small h k)) _ refl .1)
+        ∙ sym (tlc-written put H A B out kH nA nB (omega arith) _ refl .1)
         ∙ rw (ex, ez, eA, eB, eH ∙ first-hash)
 
     -- the key hashes are remote, local
-    pub first-remote : b ≡ true → out′ ≡ wroteTlc put H (M .bytes) (L .bytes) (replicate 97 0) .bytes → out′ ≡ sets (replicate 97 0) 0 (firstRecord h b t)
+    pub first-remote : b ≡ true → out′ ≡ wroteTlc put H (M .bytes) (L .bytes) out .bytes → out′ ≡ sets out 0 (firstRecord h b t)
     first-remote e w = wrote (M .bytes) (L .bytes) (rw e remote-hash) (rw e local-hash) w
 
     -- or swapped
-    pub first-local : b ≡ false → out′ ≡ wroteTlc put H (L .bytes) (M .bytes) (replicate 97 0) .bytes → out′ ≡ sets (replicate 97 0) 0 (firstRecord h b t)
+    pub first-local : b ≡ false → out′ ≡ wroteTlc put H (L .bytes) (M .bytes) out .bytes → out′ ≡ sets out 0 (firstRecord h b t)
     first-local e w = wrote (L .bytes) (M .bytes) (rw e local-hash) (rw e remote-hash) w
 
 -- ---- one settlement TLC
@@ -198,7 +198,7 @@ module _ (s : List ℕ) (from i : ℕ) (c : Along settlementLen s (all validSett
   unfolding all
   valid-here = and-eq-true-iff (validSettlement (part s from 124)) _ .0 (along-cons settlementLen s (all validSettlement) true from i c g) .0
 
-  -- as `first_record` wants it
+  -- as `put_first` wants it
   pub valid-asks : (t : List ℕ) → t ≡ part s from 124 → (validSettlement t ≡ true) × (length t ≡ 124)
   valid-asks t e = (rw e valid-here, ap length e ∙ part-length s from 124 (along-room settlementLen s (all validSettlement) true from i c g))
 
@@ -276,6 +276,10 @@ module _ (h : ℕ) (b : Bool) (s out₀ : List ℕ) where
             ∙ ap (λ (o : List ℕ). sets o (at + recordLen h) (flatten (firstRecords h b es))) (sym d));
       }
 
+-- stores leave a list as long as it is
+pub still-long : (o v o′ : List ℕ) (n : ℕ) → o′ ≡ sets o 0 v → length o ≡ n → n ≡ length o′
+still-long o v o′ n e f = sym (ap length e ∙ length-sets o 0 v ∙ f)
+
 -- ---- the same records as those of a tracked list
 
 module _ (h : ℕ) (b : Bool) (s w : List ℕ) where
@@ -289,20 +293,22 @@ module _ (h : ℕ) (b : Bool) (s w : List ℕ) where
       (λ e. ne (omega (arith, e, firsts-count h b (entries settlementLen s), entries-length settlementLen s, tlcs-length h w)))
 
   -- The loop over both: whether the rests are the same, from here, is whether the wholes are.
-  pub record Sames (from at i : ℕ) : Type 0 where
+  pub record Sames (buffer : List ℕ) (from at i : ℕ) : Type 0 where
     pub valid : Along settlementLen s (all validSettlement) true from i
     pub place : at ≡ i * (98 + h) + 33
+    pub long : length buffer ≡ 97
     pub rest : Along settlementLen s (λ (es : List (List ℕ)). sameLists (firstRecords h b es) (drop i (tlcs h w))) sameAll from i
 
   -- before the first
-  pub sames-start : all validSettlement (entries settlementLen s) ≡ true → Sames 0 33 0
-  sames-start e = record {
+  pub sames-start : all validSettlement (entries settlementLen s) ≡ true → (buffer : List ℕ) → length buffer ≡ 97 → Sames buffer 0 33 0
+  sames-start e buffer l = record {
     valid = valid-start s e;
     place = omega (arith, zero-mul (98 + h));
+    long = l;
     rest = record { low = omega arith; place = omega arith; rest = refl };
   }
 
-  module _ (from at i : ℕ) (c : Sames from at i) (n : length s / 124 ≡ length w / (98 + h)) where
+  module _ (buffer : List ℕ) (from at i : ℕ) (c : Sames buffer from at i) (n : length s / 124 ≡ length w / (98 + h)) where
     -- all were the same
     pub sames-end : length s / 124 ≤ i → true ≡ sameAll
     unfolding firstRecords sameLists
@@ -320,10 +326,14 @@ module _ (h : ℕ) (b : Bool) (s w : List ℕ) where
       pub sames-at : at + (65 + h) ≤ length w
       sames-at = omega (arith, c .place, entry-room (98 + h) w i (omega arith))
 
-      module _ (t o F T : List ℕ) (et : t ≡ part s from 124) (eo : o ≡ sets (replicate 97 0) 0 (firstRecord h b t)) (eF : F ≡ part o 0 (65 + h)) (eT : T ≡ part w at (65 + h)) where
+      module _ (buffer′ F T : List ℕ) (eb : buffer′ ≡ sets buffer 0 (firstRecord h b (part s from 124))) (eF : F ≡ part buffer′ 0 (65 + h)) (eT : T ≡ part w at (65 + h)) where
         -- the record is read back
         back : F ≡ firstRecord h b (part s from 124)
-        back = eF ∙ back-here s from i (c .valid) g h b k t o et eo (65 + h) refl
+        back =
+            let l = first-length h b (part s from 124) k (part-length s from 124 sames-from) in
+            eF
+            ∙ ap (λ (o : List ℕ). part o 0 (65 + h)) eb
+            ∙ sets-back buffer (firstRecord h b (part s from 124)) 0 (65 + h) (sym l) (omega (arith, l, c .long, hash-len-small h k))
 
         -- and compared with the tracked one
         step : (es : List (List ℕ)) → sameLists (firstRecords h b (part s from 124 ∷ es)) (drop i (tlcs h w))
@@ -339,10 +349,11 @@ module _ (h : ℕ) (b : Bool) (s w : List ℕ) where
         sames-differ e = along-stop settlementLen s _ sameAll from i (c .rest) g false (λ es. step es ∙ rw e)
 
         -- two that do not
-        pub sames-next : same F T ≡ true → Sames (from + 124) (at + (98 + h)) (i + 1)
+        pub sames-next : same F T ≡ true → Sames buffer′ (from + 124) (at + (98 + h)) (i + 1)
         sames-next e = record {
           valid = valid-next s from i (c .valid) g;
           place = omega (arith, c .place, ap (λ (j : ℕ). j * (98 + h)) (add-one i), suc-mul i (98 + h));
+          long = ap length eb ∙ length-sets buffer 0 (firstRecord h b (part s from 124)) ∙ c .long;
           rest = along-next settlementLen s _ sameAll from i (c .rest) g (λ (es : List (List ℕ)). sameLists (firstRecords h b es) (drop (i + 1) (tlcs h w))) (λ es. step es ∙ rw e);
         }
 

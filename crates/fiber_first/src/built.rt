@@ -28,6 +28,7 @@ ghost use Prim.Native.Nat.{_+_, _≤_};
 ghost use lib.ListN.{length, replicate};
 ghost use lib.Seq.{sets};
 ghost use Rattle.fiber_types.specs.Records.{validHashLen};
+ghost use Rattle.fiber_witness.specs.Witness.{recordLen};
 ghost use Rattle.fiber_choice.specs.Entries.{entries, all, validSettlement, settlementLen, trackedLen, trackedRecords};
 ghost use Rattle.fiber_choice.specs.FirstRecords as S;
 ghost use Rattle.fiber_choice.specs.Entries.{sameLists};
@@ -35,10 +36,10 @@ ghost use Rattle.fiber_choice.specs.Entries.{sameLists};
 // The bytes of the longest record, whose hash has 32.
 const LONGEST_RECORD: usize = 97;
 
-// The record of a settlement TLC of 124 bytes, its 65 + h bytes at the front of an array.
-pub fn first_record(h: usize, for_remote: bool, tlc: &[u8]) -> [u8; LONGEST_RECORD]
-    requires { ⌜ (validHashLen h ≡ true) × ((validSettlement (now tlc) ≡ true) × (length (now tlc) ≡ 124)) ⌝ }
-    ensures { λ r. ⌜ r ≡ sets (replicate 97 0) 0 (S.firstRecord h «for_remote» (now (tlc .entry))) ⌝ }
+// The record of a settlement TLC of 124 bytes, to the front of a buffer that has room for it.
+fn put_first(h: usize, for_remote: bool, tlc: &[u8], buffer: &mut [u8])
+    requires { ⌜ (validHashLen h ≡ true) × ((validSettlement (now tlc) ≡ true) × ((length (now tlc) ≡ 124) × (recordLen h ≤ length (now buffer)))) ⌝ }
+    ensures { λ _. ⌜ now (buffer .exit) ≡ sets (now (buffer .entry)) 0 (S.firstRecord h «for_remote» (now (tlc .entry))) ⌝ }
 {
     let numbers = Tlc {
         kind: tlc[1] * 2 + tlc[0],
@@ -49,13 +50,32 @@ pub fn first_record(h: usize, for_remote: bool, tlc: &[u8]) -> [u8; LONGEST_RECO
     let remote = key_hash(part_of(tlc, SETTLEMENT_REMOTE_KEY, PUBLIC_KEY));
     let local_hash = local.bytes;
     let remote_hash = remote.bytes;
-    let hash = part_of(tlc, SETTLEMENT_HASH, h);
-    let mut record = [0u8; LONGEST_RECORD];
     if for_remote {
-        tlc::write(numbers, hash, &remote_hash, &local_hash, &mut record);
+        tlc::write(
+            numbers,
+            part_of(tlc, SETTLEMENT_HASH, h),
+            &remote_hash,
+            &local_hash,
+            buffer,
+        );
     } else {
-        tlc::write(numbers, hash, &local_hash, &remote_hash, &mut record);
+        tlc::write(
+            numbers,
+            part_of(tlc, SETTLEMENT_HASH, h),
+            &local_hash,
+            &remote_hash,
+            buffer,
+        );
     }
+}
+
+// The record by itself, its 65 + h bytes at the front of an array.
+pub fn first_record(h: usize, for_remote: bool, tlc: &[u8]) -> [u8; LONGEST_RECORD]
+    requires { ⌜ (validHashLen h ≡ true) × ((validSettlement (now tlc) ≡ true) × (length (now tlc) ≡ 124)) ⌝ }
+    ensures { λ r. ⌜ r ≡ sets (replicate 97 0) 0 (S.firstRecord h «for_remote» (now (tlc .entry))) ⌝ }
+{
+    let mut record = [0u8; LONGEST_RECORD];
+    put_first(h, for_remote, tlc, &mut record);
     record
 }
 
@@ -70,10 +90,16 @@ pub fn same_as_tracked(h: usize, for_remote: bool, tlcs: &[u8], tracked: &[u8]) 
     if n != tracked.len() / size {
         return false;
     }
+    let mut record = [0u8; LONGEST_RECORD];
     let mut from = 0;
     let mut at = TRACKED_RECORD;
     for i in 0..n {
-        let record = first_record(h, for_remote, &tlcs[from..from + SETTLEMENT_TLC]);
+        put_first(
+            h,
+            for_remote,
+            &tlcs[from..from + SETTLEMENT_TLC],
+            &mut record,
+        );
         if !same(
             part_of(&record, 0, TLC_FIXED + h),
             part_of(tracked, at, TLC_FIXED + h),
