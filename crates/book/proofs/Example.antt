@@ -11,7 +11,7 @@ use Rattle.fiber_types.specs.Records.{outcome, validHashLen}
 use Rattle.fiber_choice.specs.declared.kinds.Side.the-variants.{Remote, Local}
 use Rattle.fiber_witness.specs.Unlocks.{unlockSize, unlocksWithin, unlocksIn}
 use Rattle.fiber_witness.specs.Witness.{chunks, stateBytes, member, placesWithin, places, unlessCut, readUnlocks, readShares, readTlcs, readWitness}
-use Rattle.fiber_witness.specs.Update.{takeUnlocks, keep, shareLeft, standing, stateLeft, byRead, unlocked, written, updated}
+use Rattle.fiber_witness.specs.Update.{takeUnlocks, keep, shareLeft, stateAfter, stateLeft, byRead, unlocked, written, updated}
 use Rattle.types_c.specs.Answers.{answered, call}
 use Rattle.settlement_c.specs.Settlement.{OutCall, writtenAnswer, writtenCall, updateCall}
 use Rattle.book.specs.Trace.{Transition, trace}
@@ -44,14 +44,14 @@ calls =
     ∷ (callWith (unlock 0 ++ unlock 255 ++ unlock 254) ∷ []))
 
 statuses : map (λ (r : Transition (List ℕ) OutCall). r .answer .status) (trace hostTransition first calls) ≡ 0 ∷ (6 ∷ (0 ∷ []))
-unfolding tlcOf shareOf unlock first callWith calls le leBytes outcome validHashLen chunks flatten stateBytes member placesWithin places unlessCut readUnlocks readShares readTlcs readWitness takeUnlocks keep shareLeft standing stateLeft byRead unlocked written updated answered call flatMap writtenAnswer updateCall writtenCall hostTransition trace
+unfolding tlcOf shareOf unlock first callWith calls le leBytes outcome validHashLen chunks flatten stateBytes member placesWithin places unlessCut readUnlocks readShares readTlcs readWitness takeUnlocks keep shareLeft stateAfter stateLeft byRead unlocked written updated answered call flatMap writtenAnswer updateCall writtenCall hostTransition trace
 statuses = refl
 
 example : allPaid 20 first calls
     ≡ record { to = tlc 0; amount = 5 }
     ∷ (record { to = share Local; amount = 9 }
     ∷ (record { to = tlc 1; amount = 6 } ∷ (record { to = share Local; amount = 0 } ∷ (record { to = share Remote; amount = 7 } ∷ []))))
-unfolding tlcOf shareOf unlock first callWith calls le leBytes outcome validHashLen chunks flatten stateBytes member placesWithin places unlessCut readUnlocks readShares readTlcs readWitness takeUnlocks keep shareLeft standing stateLeft byRead unlocked written updated answered call flatMap writtenAnswer updateCall writtenCall unlockSize unlocksWithin unlocksIn tlcLen tlcAmount shareAmount tlcsIn shareIn payeeOf sameSide change hostTransition payments samePayee isPaid remain observe placesFrom trace
+unfolding tlcOf shareOf unlock first callWith calls le leBytes outcome validHashLen chunks flatten stateBytes member placesWithin places unlessCut readUnlocks readShares readTlcs readWitness takeUnlocks keep shareLeft stateAfter stateLeft byRead unlocked written updated answered call flatMap writtenAnswer updateCall writtenCall unlockSize unlocksWithin unlocksIn tlcLen tlcAmount shareAmount tlcsIn shareIn payeeOf sameSide change hostTransition payments samePayee isPaid remain observe placesFrom trace
 example = refl
 
 -- the hypotheses hold of it, so the claim does

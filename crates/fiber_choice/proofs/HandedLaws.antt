@@ -32,12 +32,12 @@ use Rattle.fiber_choice.specs.declared.kinds.Choice.{Choice}
 use Rattle.fiber_choice.specs.declared.kinds.Choice.the-variants as choice·
 use Rattle.fiber_choice.specs.declared.kinds.Plan.{Plan}
 use Rattle.fiber_witness.specs.Witness.{recordLen, chunks, stateBytes, member, unlockLen, places, unlessCut, readWitness}
-use Rattle.fiber_witness.specs.Update.{keep, shareLeft, none, fine, takeUnlocks, updated}
+use Rattle.fiber_witness.specs.Update.{keep, shareLeft, none, fine, takeUnlocks, updated, stateAfter}
 use Rattle.fiber_witness.specs.inner.Marks.{Marks, noMarks}
 use Rattle.fiber_witness.specs.inner.Strided.{behindTlcs, strided, unmarked}
 use Rattle.fiber_choice.specs.Entries.{entries, trackedLen, trackedRecords, pairLen, pairPreimage}
 use Rattle.fiber_choice.specs.declared.kinds.ChoiceAnswer.the-variants as answer·
-use Rattle.fiber_choice.specs.HandedOut.{choiceByte, newArgs, unlockOf, takes, stateAfter, choiceAmount, recordSize, handedOut}
+use Rattle.fiber_choice.specs.HandedOut.{choiceByte, newArgs, unlockOf, takes, choiceAmount, recordSize, handedOut}
 use Rattle.fiber_choice.specs.inner.Plan.{planOf, planAfter, planUnlock, joined, Below, Within}
 use Rattle.fiber_choice.specs.Promises.{PairIn}
 use Rattle.fiber_witness.proofs.WitnessLaws.{Even, even-none, even-more, even-at, flatten-even, state-size, places-nil, places-cons, member-none, cut-none, cut-passed}

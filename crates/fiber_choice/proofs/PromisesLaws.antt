@@ -24,7 +24,7 @@ use Rattle.fiber_types.specs.Records.{validHashLen, amountAt, outcome}
 use Rattle.fiber_types.proofs.RecordsLaws.{unlockBytes-length, outcome-room, at-least}
 use Rattle.fiber_witness.specs.Unlocks.{unlocksIn}
 use Rattle.fiber_witness.specs.Witness.{recordLen, stateBytes}
-use Rattle.fiber_witness.specs.Update.{Taken, shareLeft, standing, stateLeft, Unlocked, fine, faulty, unlocked, written, updated}
+use Rattle.fiber_witness.specs.Update.{Taken, shareLeft, standing, stateLeft, Unlocked, fine, faulty, unlocked, written, updated, stateAfter}
 use Rattle.fiber_witness.proofs.WitnessLaws.{Even, even-records}
 use Rattle.fiber_witness.proofs.StateLaws.{Sound}
 use Rattle.fiber_witness.proofs.UnlocksLaws.{unlocks-one}
@@ -53,7 +53,7 @@ use Rattle.fiber_choice.specs.FirstRecords.{firstRecords, firstRemote, f
 use Rattle.fiber_choice.specs.Walk.{ourShare, Verdict, passed, timeout, ready, falls, stepOf, onward, walk, orShare}
 use Rattle.fiber_choice.specs.Verdicts.{duesBy, verdicts, mayShare, walked}
 use Rattle.fiber_types.specs.Records.{Outcome}
-use Rattle.fiber_choice.specs.HandedOut.{choiceByte, unlockOf, takes, stateAfter, newArgs, choiceAmount, recordSize, handedOut}
+use Rattle.fiber_choice.specs.HandedOut.{choiceByte, unlockOf, takes, newArgs, choiceAmount, recordSize, handedOut}
 use Rattle.fiber_choice.specs.Settlements.{walkedBy, orWait, ifReady, laterReady, laterChoice, unsettled, laterPlace, laterState, laterOf, later, firstDelay, firstPlace, firstThirds, firstReady, first}
 use Rattle.fiber_choice.specs.Choice.{afterDelay, choiceOf, recordPart, recordOf}
 use Rattle.fiber_choice.specs.inner.Plan.{Within, Below}
@@ -238,7 +238,7 @@ module _ (q : Request) (w : List ℕ) (n sharePlace : ℕ) (t : Taken) where
         (λ _. later-time-walk (q .h) (q .forRemote) time time′ (settlementTlcs q) (pairs q) stage·.Later (trackedTlcs q) g)
 
     later-states : States q true w (stateBytes (trackedRecords (trackedTlcs q)) remoteLeft localLeft)
-    unfolding updated written stateLeft
+    unfolding updated written stateLeft stateAfter standing
     later-states into g =
         rw u
         (ap (λ (rs : List (List ℕ)). outcome true (stateBytes rs remoteLeft localLeft) into) stand-tracked

@@ -9,7 +9,7 @@ use Rattle.fiber_blake2b.specs.Blake2b.{ckbHash}
 use Rattle.fiber_types.specs.declared.tlc.Amount.{Amount}
 use Rattle.fiber_types.specs.Records.{Outcome, unwritten, amountAt, unlockBytes}
 use Rattle.fiber_witness.specs.Witness.{recordLen, stateBytes}
-use Rattle.fiber_witness.specs.Update.{Taken, keep, shareLeft}
+use Rattle.fiber_witness.specs.Update.{Taken, stateAfter}
 use Rattle.fiber_choice.specs.declared.kinds.Side.the-variants as side·
 use Rattle.fiber_choice.specs.declared.kinds.Way.the-variants as way·
 use Rattle.fiber_choice.specs.declared.kinds.Choice.{Choice}
@@ -43,9 +43,6 @@ unfoldable pub takes : Choice → Taken
 takes (choice·.Share side·.Local) = record { settled = []; remote = false; local = true }
 takes (choice·.Share side·.Remote) = record { settled = []; remote = true; local = false }
 takes (choice·.Tlc place way) = record { settled = place ∷ []; remote = false; local = false }
-
-unfoldable pub stateAfter : List (List ℕ) → List ℕ → List ℕ → Taken → List ℕ
-stateAfter tlcs remote local t = stateBytes (keep (t .settled) 0 tlcs) (shareLeft (t .remote) remote) (shareLeft (t .local) local)
 
 -- args 0 to 35, first 20 bytes of the CKB hash of the state after the unlock, 0x01, args from byte 57
 unfoldable pub newArgs : List ℕ → List ℕ → List ℕ

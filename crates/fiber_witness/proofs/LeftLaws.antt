@@ -11,7 +11,7 @@ use Rattle.fiber_types.specs.declared.answer.Written.the-variants as written·
 use Rattle.fiber_witness.specs.declared.witness.WitnessRead.{WitnessRead}
 use Rattle.fiber_witness.specs.declared.witness.WitnessRead.the-variants as read·
 use Rattle.fiber_witness.specs.Witness.{recordLen, stateBytes, places, readWitness}
-use Rattle.fiber_witness.specs.Update.{Taken, none, stateLeft, Unlocked, byRead, unlocked, written, updated}
+use Rattle.fiber_witness.specs.Update.{Taken, none, stateLeft, Unlocked, byRead, unlocked, written, updated, stateAfter, standing}
 use Rattle.fiber_witness.proofs.WitnessLaws.{Fine, FineRead, fine}
 use Rattle.fiber_witness.proofs.UpdateLaws.{Comes, comes-fine, comes-faulty, unlocks-come, standing-length, state-length}
 use Rattle.fiber_types.proofs.RecordsLaws.{outcome-by}
@@ -35,7 +35,7 @@ Left h o (written·.Refused number place) = Unit {0}
 module _ (h : ℕ) (w out : List ℕ) (n sharePlace first : ℕ) (f : Fine h w n sharePlace first) where
   -- the state left is whole
   whole-state : (t : Taken) → Whole h (stateLeft h w n sharePlace t)
-  unfolding stateLeft stateBytes
+  unfolding stateLeft stateAfter standing stateBytes
   whole-state t = record {
     small = f .small;
     size = omega (arith, state-length h w n sharePlace t (f .shares), standing-length h w n (t .settled) (omega (arith, f .tlcs, f .shares)));

@@ -12,7 +12,7 @@ use Rattle.fiber_bytes.proofs.BytesLaws.{part-add, part-length}
 use Rattle.fiber_types.specs.Records.{validHashLen}
 use Rattle.fiber_witness.specs.declared.witness.WitnessRead.the-variants.{Whole, Refused}
 use Rattle.fiber_witness.specs.Witness.{recordLen, chunks, stateBytes, places, unlessCut, readUnlocks, readTlcs, readWitness}
-use Rattle.fiber_witness.specs.Update.{Taken, keep, shareLeft, standing, stateLeft}
+use Rattle.fiber_witness.specs.Update.{Taken, keep, shareLeft, stateLeft, stateAfter}
 use Rattle.fiber_witness.specs.inner.Strided.{behindTlcs}
 use Rattle.fiber_witness.proofs.WitnessLaws.{shares-whole, witness-tlcs, Even, flatten-even, records-even, records-length, even-records, flatten-records, state-size}
 use Rattle.fiber_witness.proofs.UpdateLaws.{keep-few, even-keep, left-length}
@@ -115,7 +115,7 @@ module _ {h : ℕ} {rs : List (List ℕ)} {R L : List ℕ} (ok : Sound h rs R L)
     -- what unlocks leave of the witness is what they leave of the state
     pub state-left : (t : Taken)
         → stateLeft h w (length rs) (behindTlcs h (length rs)) t ≡ stateBytes (keep (t .settled) 0 rs) (shareLeft (t .remote) R) (shareLeft (t .local) L)
-    unfolding stateLeft standing
+    unfolding stateLeft stateAfter
     state-left t = rw (tlcs-part w behind 2 w-tail, remote-part w behind 2 w-tail, local-part w behind 2 w-tail)
 
 -- ---- the parts of a list that has as many bytes as its first byte says

@@ -11,7 +11,7 @@ use lib.Seq.{sets, length-sets, drop-drop, take-all}
 use Rattle.fiber_bytes.specs.Bytes.{part}
 use Rattle.fiber_bytes.proofs.BytesLaws.{part-length, sets-append, sets-then, sets-fill, one-less}
 use Rattle.fiber_witness.specs.Witness.{recordLen, chunks, stateBytes}
-use Rattle.fiber_witness.specs.Update.{keep, shareLeft, standing, stateLeft}
+use Rattle.fiber_witness.specs.Update.{keep, shareLeft, standing, stateLeft, stateAfter}
 use Rattle.fiber_witness.specs.inner.Marks.{Marks, marked, noMarks}
 use Rattle.fiber_witness.specs.inner.Strided.{strided, unmarked}
 use Rattle.fiber_witness.proofs.UpdateLaws.{marks-marked, marks-none, marks-set, keep-marked, keep-few, part-between}
@@ -65,7 +65,7 @@ marks-one marks place e g = rw e (marks-set noMarks [] place (omega arith) marks
 pub unmarked-left : (h : ℕ) (w : List ℕ) (n sharePlace : ℕ) (marks : List Bool) (remote local : Bool) (out o : List ℕ)
     → o ≡ sets out 0 (stateBytes (unmarked h w 2 (recordLen h) n marks) (shareLeft remote (take (sharePlace + 36 - sharePlace) (drop sharePlace w))) (shareLeft local (take (sharePlace + 36 + 36 - (sharePlace + 36)) (drop (sharePlace + 36) w))))
     → o ≡ sets out 0 (stateLeft h w n sharePlace (record { settled = marked marks; remote = remote; local = local }))
-unfolding stateLeft
+unfolding stateLeft stateAfter standing
 unmarked-left h w n sharePlace marks remote local out o e = e ∙ rw (part-between w sharePlace 36, part-between w (sharePlace + 36) 36, unmarked-standing h w n marks)
 
 -- ---- writing the records that are not marked

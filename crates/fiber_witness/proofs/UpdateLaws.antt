@@ -23,7 +23,7 @@ use Rattle.fiber_witness.specs.declared.witness.WitnessRead.the-variants
 use Rattle.fiber_witness.specs.declared.unlocks.UnlocksAnswer.{UnlocksAnswer}
 use Rattle.fiber_witness.specs.declared.unlocks.UnlocksAnswer.the-variants as unlocks·
 use Rattle.fiber_witness.specs.Witness.{recordLen, unlockLen, chunks, member, places, readWitness}
-use Rattle.fiber_witness.specs.Update.{Taken, none, Unlocked, fine, faulty, takeUnlocks, keep, shareLeft, standing, stateLeft, byRead, unlocked, written, updated}
+use Rattle.fiber_witness.specs.Update.{Taken, none, Unlocked, fine, faulty, takeUnlocks, keep, shareLeft, standing, stateLeft, byRead, unlocked, written, updated, stateAfter}
 use Rattle.fiber_witness.specs.inner.Strided.{behindTlcs}
 use Rattle.fiber_witness.specs.inner.Marks.{Marks, markedFrom, marked, noMarks, TakesAs}
 use Rattle.fiber_witness.proofs.WitnessLaws as witness·
@@ -366,7 +366,7 @@ left-length false s e = e
 module _ (h : ℕ) (w : List ℕ) (n sharePlace : ℕ) (t : Taken) (g : sharePlace + 72 ≤ length w) where
   -- the count, the records that stand, and two shares
   pub state-length : length (stateLeft h w n sharePlace t) ≡ 73 + length (flatten (standing h w n (t .settled)))
-  unfolding stateLeft
+  unfolding stateLeft stateAfter standing
   state-length =
       state-size _ _ _
       (left-length (t .remote) (part w sharePlace 36) (part-length w sharePlace 36 (omega arith)))
@@ -409,7 +409,7 @@ module _ (h : ℕ) (w out : List ℕ) (n sharePlace first : ℕ) (v : UnlocksAns
   module _ (e : v ≡ unlocks·.Fine) where
     -- the state by the marks is the state by the list; where every unlock is taken, it is written
     settled-fine : ended ≡ outcome true (stateLeft h w n sharePlace (record { settled = marked marks; remote = remote; local = local })) out
-    unfolding written stateLeft standing
+    unfolding written stateLeft stateAfter
     settled-fine = go (takes-all v marks remote local (unlocks-come n sharePlace w none (places w first)) j e)
       where
         go : All n sharePlace marks remote local (takeUnlocks n sharePlace w none (places w first))

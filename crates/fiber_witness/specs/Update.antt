@@ -58,9 +58,12 @@ shareLeft isUnlocked s = cond isUnlocked (replicate 36 0) s
 unfoldable pub standing : ℕ → List ℕ → ℕ → List ℕ → List (List ℕ)
 standing h w n settled = keep settled 0 (chunks (recordLen h) n (drop 2 w))
 
+-- what unlocks leave of a state with these TLCs and shares
+unfoldable pub stateAfter : List (List ℕ) → List ℕ → List ℕ → Taken → List ℕ
+stateAfter tlcs remote local t = stateBytes (keep (t .settled) 0 tlcs) (shareLeft (t .remote) remote) (shareLeft (t .local) local)
+
 unfoldable pub stateLeft : ℕ → List ℕ → ℕ → ℕ → Taken → List ℕ
-stateLeft h w n sharePlace t =
-    stateBytes (standing h w n (t .settled)) (shareLeft (t .remote) (part w sharePlace 36)) (shareLeft (t .local) (part w (sharePlace + 36) 36))
+stateLeft h w n sharePlace t = stateAfter (chunks (recordLen h) n (drop 2 w)) (part w sharePlace 36) (part w (sharePlace + 36) 36) t
 
 -- ---- the update
 

@@ -13,7 +13,7 @@ ghost use Rattle.fiber_bytes.specs.Bytes.{part};
 ghost use Rattle.fiber_witness.specs.Witness.{recordLen, stateBytes};
 ghost use Rattle.fiber_witness.specs.Update.{shareLeft};
 ghost use Rattle.fiber_witness.specs.inner.Marks.{Marks};
-ghost use Rattle.fiber_witness.specs.inner.Strided.{unmarked};
+ghost use Rattle.fiber_witness.specs.inner.Strided.{unmarked, Fronts};
 
 // One mark alone.
 pub fn one_mark(place: usize) -> [bool; 256]
@@ -108,11 +108,9 @@ pub fn put_state(
     requires { ⌜ k ≡ length (unmarked h (now source) from stride n marks) ⌝ }
     requires { ⌜ (length (now remote) ≡ 36) × (length (now local) ≡ 36) ⌝ }
     requires { ⌜ 73 + length (flatten (unmarked h (now source) from stride n marks)) ≤ length (now out) ⌝ }
-    ensures { λ r. ⌜ r ≡ length (stateBytes (unmarked h (now (source .entry)) from stride n marks)
-        (shareLeft «remote_unlocked» (now (remote .entry))) (shareLeft «local_unlocked» (now (local .entry)))) ⌝ }
-    ensures { λ _. ⌜ now (out .exit) ≡ sets (now (out .entry)) 0 (stateBytes
-        (unmarked h (now (source .entry)) from stride n marks) (shareLeft «remote_unlocked» (now (remote .entry)))
-        (shareLeft «local_unlocked» (now (local .entry)))) ⌝ }
+    ensures { λ r. ⌜ Fronts (stateBytes (unmarked h (now (source .entry)) from stride n marks)
+        (shareLeft «remote_unlocked» (now (remote .entry))) (shareLeft «local_unlocked» (now (local .entry)))) (now (out .entry))
+        r (now (out .exit)) ⌝ }
 {
     out[0] = k as u8;
     let at = put_records(source, from, stride, h, n, marks, out);

@@ -1,4 +1,5 @@
 -- The two lengths.
+use native.Mathlib.Omega.{arith}
 use borrow.Author.Tests.{eq-eqb, ne-eqb}
 use Rattle.fiber_types.specs.Records.{validHashLen}
 use Rattle.fiber_types.proofs.tlc.valid_hash_len.Statement.{statement}
@@ -6,7 +7,7 @@ use Rattle.fiber_types.proofs.tlc.valid_hash_len.Tie as tie
 
 returns : tie.Need-returns
 unfolding validHashLen
-returns c = simp (eq-eqb _ _ (c .if1 .taken))
+returns c = simp (eq-eqb (c .before .args .h) 20 (omega (arith, c .if1 .taken)))
 
 returns-2 : tie.Need-returns-2
 unfolding validHashLen
