@@ -25,16 +25,16 @@ use Rattle.book.proofs.BookLaws.{sumOf}
 
 -- ---- a share: paid in full once, then nothing, and changed by its own payments alone
 
-pub record Share (before : List ℕ) (amounts : List ℕ) (behind : List ℕ) : Type 0 where
+pub record SharePaid (before : List ℕ) (amounts : List ℕ) (behind : List ℕ) : Type 0 where
   pub once : amounts ≡ onceOf (length amounts) (shareAmount before)
   pub apart : behind ≡ shareAfter amounts before
 
 -- no payment, and the first
-share-none : (s : List ℕ) → Share s [] s
+share-none : (s : List ℕ) → SharePaid s [] s
 unfolding onceOf shareAfter
 share-none s = record { once = refl; apart = refl }
 
-share-one : (s : List ℕ) → Share s (shareAmount s ∷ []) (replicate 36 0)
+share-one : (s : List ℕ) → SharePaid s (shareAmount s ∷ []) (replicate 36 0)
 unfolding onceOf shareAfter
 share-one s = record { once = refl; apart = refl }
 
@@ -50,7 +50,7 @@ after-zeros [] = refl
 after-zeros (x ∷ xs) = refl
 
 -- payments, and then further ones
-share-append : (xs : List ℕ) {s s′ s″ ys : List ℕ} → Share s xs s′ → Share s′ ys s″ → Share s (xs ++ ys) s″
+share-append : (xs : List ℕ) {s s′ s″ ys : List ℕ} → SharePaid s xs s′ → SharePaid s′ ys s″ → SharePaid s (xs ++ ys) s″
 unfolding onceOf shareAfter
 share-append [] a b = rw (a .apart) at b
 share-append (x ∷ xs) {s} {ys = ys} a b =
@@ -134,7 +134,7 @@ worthOf rs a = total (map tlcAmount (recordsAt rs (a .firsts))) + (shareAmount (
 
 -- payments between two accounts: what each payee gets, and nothing lost
 pub record Pays (rs : List (List ℕ)) (a : Account) (ps : List Payment) (b : Account) : Type 0 where
-  pub shares : (side : Side) → Share (a .shares side) (paidTo (share side) ps) (b .shares side)
+  pub shares : (side : Side) → SharePaid (a .shares side) (paidTo (share side) ps) (b .shares side)
   pub tlcs : (i : ℕ) → Once (tlcAmount (getD rs i [])) (member i (a .firsts)) (paidTo (tlc i) ps) (member i (b .firsts))
   pub order : {k : ℕ} → Rising k (a .firsts) → Rising k (b .firsts)
   pub sum : sumOf ps + worthOf rs b ≡ worthOf rs a
@@ -171,7 +171,7 @@ module _ (rs : List (List ℕ)) (a : Account) where
     sum = rest side;
   }
     where
-      one : (x y : Side) → Share (a .shares y) (cond (sameSide y x) (shareAmount (a .shares x) ∷ []) []) (change x (replicate 36 0) (a .shares) y)
+      one : (x y : Side) → SharePaid (a .shares y) (cond (sameSide y x) (shareAmount (a .shares x) ∷ []) []) (change x (replicate 36 0) (a .shares) y)
       one Remote Remote = share-one (a .shares Remote)
       one Remote Local = share-none (a .shares Local)
       one Local Remote = share-none (a .shares Remote)

@@ -357,8 +357,8 @@ module _ (h : ℕ) (s : List ℕ) (f : length (entries (trackedLen h) s) ≤ 254
 module _ (h : ℕ) (args s preimages remote local : List ℕ) (p : Plan)
     (a : 36 ≤ length args) (d : length remote ≡ 36) (f : length local ≡ 36)
     (g : (64 * (p .«pair_place») + 64 ≤ length preimages) ⊎ (p .flag ≡ false)) where
-  abbrev unlocks : List ℕ
-  unlocks = planUnlock (entries pairLen preimages) p
+  abbrev unlock : List ℕ
+  unlock = planUnlock (entries pairLen preimages) p
 
   abbrev before : List ℕ
   before = stateBytes (tlcs h s) remote local
@@ -367,7 +367,7 @@ module _ (h : ℕ) (args s preimages remote local : List ℕ) (p : Plan)
   after = planAfter (tlcs h s) remote local p
 
   -- the unlock
-  pub unlock-size : length unlocks ≡ witnessLen (p .flag)
+  pub unlock-size : length unlock ≡ witnessLen (p .flag)
   unfolding planUnlock
   unlock-size = go (p .flag) refl
     where
@@ -405,8 +405,8 @@ module _ (h : ℕ) (args s preimages remote local : List ℕ) (p : Plan)
   joined-size =
       omega (
         arith,
-        length-append (unlocks ++ before) (newArgs args after),
-        length-append unlocks before,
+        length-append (unlock ++ before) (newArgs args after),
+        length-append unlock before,
         unlock-size,
         state-size (tlcs h s) remote local d f,
         new-size after,
@@ -418,10 +418,10 @@ module _ (h : ℕ) (args s preimages remote local : List ℕ) (p : Plan)
     pub unlock-room : 99 ≤ length out
     unlock-room = omega (arith, r, joined-size, at-least (p .flag))
 
-    module _ (o₁ : List ℕ) (e₁ : o₁ ≡ sets out 0 unlocks) where
+    module _ (o₁ : List ℕ) (e₁ : o₁ ≡ sets out 0 unlock) where
       -- for a state behind it
       pub after-room : at + (73 + length (flatten (tlcs h s))) ≤ length o₁
-      after-room = omega (arith, r, joined-size, ap length e₁, length-sets out 0 unlocks)
+      after-room = omega (arith, r, joined-size, ap length e₁, length-sets out 0 unlock)
 
       -- also in the part of the output that begins there
       pub part-room : 73 + length (flatten (tlcs h s)) ≤ length (take (length o₁ - at) (drop at o₁))
@@ -465,7 +465,7 @@ module _ (h : ℕ) (args s preimages remote local : List ℕ) (p : Plan)
             pub new-room : (at + size + 57 ≤ length o₃) × (at + size + length args ≤ length o₃)
             new-room =
                 let q : length o₃ ≡ length out =
-                ap length o₃-is ∙ length-sets o₂ at before ∙ ap length o₂-is ∙ length-sets o₁ at after ∙ ap length e₁ ∙ length-sets out 0 unlocks in
+                ap length o₃-is ∙ length-sets o₂ at before ∙ ap length o₂-is ∙ length-sets o₁ at after ∙ ap length e₁ ∙ length-sets out 0 unlock in
                 (omega (arith, r, joined-size, q, size-is), omega (arith, r, joined-size, q, size-is))
 
             -- whose place is small
@@ -477,15 +477,15 @@ module _ (h : ℕ) (args s preimages remote local : List ℕ) (p : Plan)
                 → o₄ ≡ sets out 0 (joined args (entries (trackedLen h) s) (entries pairLen preimages) remote local p)
             unfolding joined newArgs
             joined-puts o₄ hash y e₄ =
-                let k : at ≡ 0 + length unlocks = omega (arith, unlock-size) in
+                let k : at ≡ 0 + length unlock = omega (arith, unlock-size) in
                 let t = state-size (tlcs h s) remote local d f in
                 let u : o₃ ≡ sets o₁ at before =
                 o₃-is
                 ∙ ap (λ (l : List ℕ). sets l at before) o₂-is
                 ∙ sets-over o₁ after before at (omega (arith, after-room, t)) (omega (arith, t, after-size (tlcs h s) remote local p d f)) in
-                let m : at + size ≡ 0 + length (unlocks ++ before) = omega (arith, size-is, t, length-append unlocks before, unlock-size) in
-                sets-next out (unlocks ++ before) _ 0 (at + size) (sets-next out unlocks before 0 at e₁ u k) e₄ m
-                ∙ ap (λ (x : List ℕ). sets out 0 (unlocks ++ before ++ (take 36 args ++ take 20 x ++ (1 ∷ []) ++ drop 57 args))) y
+                let m : at + size ≡ 0 + length (unlock ++ before) = omega (arith, size-is, t, length-append unlock before, unlock-size) in
+                sets-next out (unlock ++ before) _ 0 (at + size) (sets-next out unlock before 0 at e₁ u k) e₄ m
+                ∙ ap (λ (x : List ℕ). sets out 0 (unlock ++ before ++ (take 36 args ++ take 20 x ++ (1 ∷ []) ++ drop 57 args))) y
 
 -- ---- a choice as a plan
 

@@ -215,7 +215,7 @@ fn amount_of(h: usize, tracked: &[u8], remote: &[u8], local: &[u8], choice: Choi
         },
         Choice::Tlc { place, way: _ } => {
             match tlc::read(h, tracked, place * (TRACKED_FIXED + h) + TRACKED_RECORD) {
-                TlcRead::Whole(record) => record.amount,
+                TlcRead::Whole(tlc) => tlc.amount,
                 TlcRead::Refused {
                     number: _,
                     place: _,

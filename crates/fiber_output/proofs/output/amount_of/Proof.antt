@@ -38,7 +38,7 @@ returns-3 c =
     let e = c .before .before .before .before .before .before .choice2 .given .1 in
     rw e
     (place-amount (s .args .h) (s .args .tracked .now) _ (s .pre .0 .0) (below-place (s .args .h) (s .args .tracked .now) _ _ _ (s .pre .1) e)
-    _ (c .before .before .before .before .read .ensures) _ (c .before .before .«record» .given .1))
+    _ (c .before .before .before .before .read .ensures) _ (c .before .before .tlc .given .1))
 
 returns-4 : tie.Need-returns-4
 returns-4 c =
