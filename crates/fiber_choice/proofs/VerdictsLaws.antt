@@ -243,7 +243,7 @@ module _ (forRemote : Bool) (ps : List (List ℕ)) where
   later-within : (h : ℕ) (tlcs : List (List ℕ)) (t : List ℕ) → VerdictWithin (length tlcs) (length ps) (laterVerdict h forRemote tlcs ps t)
   unfolding laterVerdict keyOf byExpiry byKey byPair
   later-within h tlcs t =
-      go (absoluteExpiry (tlcAt h (trackedRecord t) 0 .expiry)) (countingPair ps t) _ (counting-below ps t) (found-below _ tlcs 0 (length tlcs) (omega arith))
+      go (absoluteExpiry (tlcAt h (trackedRecord t) 0 .expiry)) (countingPair ps t) _ (counting-below ps t) (found-below _ tlcs _ (length tlcs) (omega arith))
     where
       kind : Bool
       kind = timeoutKind forRemote (isOffered (tlcAt h (trackedRecord t) 0))
