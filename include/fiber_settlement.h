@@ -45,9 +45,9 @@ extern "C" {
 /* Reads a witness of a channel whose hashes have h bytes, 20 or 32. */
 #define FIBER_SETTLEMENT_READ_ANSWER 48
 #define FIBER_SETTLEMENT_READ_TLCS 16 /* n, how many TLCs */
-#define FIBER_SETTLEMENT_READ_UNLOCKS 24 /* how many unlocks */
-#define FIBER_SETTLEMENT_READ_SHARE 32 /* the place of the share part */
-#define FIBER_SETTLEMENT_READ_FIRST 40 /* the place of the first unlock */
+#define FIBER_SETTLEMENT_READ_UNLOCK_COUNT 24 /* how many unlocks */
+#define FIBER_SETTLEMENT_READ_SHARE_PLACE 32 /* the place of the share part */
+#define FIBER_SETTLEMENT_READ_FIRST_UNLOCK 40 /* the place of the first unlock */
 
 uint64_t fiber_settlement_read(uint64_t h, const uint8_t *witness, size_t witness_len, uint8_t *answer,
                                size_t answer_len);
@@ -102,12 +102,12 @@ uint64_t fiber_settlement_update(uint64_t h, const uint8_t *witness, size_t witn
 #define FIBER_SETTLEMENT_CHOOSE_DELAY_NUMBER 72 /* 0 without a delay, as the next two */
 #define FIBER_SETTLEMENT_CHOOSE_DELAY_INDEX 80
 #define FIBER_SETTLEMENT_CHOOSE_DELAY_LENGTH 88
-#define FIBER_SETTLEMENT_CHOOSE_RECORD 96 /* the TLC's record: its place in the witness, in a first settlement in tracked */
+#define FIBER_SETTLEMENT_CHOOSE_RECORD_PLACE 96 /* the TLC's record: its place in the witness, in a first settlement in tracked */
 #define FIBER_SETTLEMENT_CHOOSE_RECORD_LENGTH 104 /* its length; both are 0 for a share */
 #define FIBER_SETTLEMENT_CHOOSE_UNLOCK_LENGTH 112 /* the length of the unlock, at the front of out */
 #define FIBER_SETTLEMENT_CHOOSE_STATE_LENGTH 120 /* of the state, behind it */
 #define FIBER_SETTLEMENT_CHOOSE_ARGS_LENGTH 128 /* of the new args, behind that */
-#define FIBER_SETTLEMENT_CHOOSE_PAIR 136 /* the place of the preimage's pair in the list of pairs, from 0; else 0 */
+#define FIBER_SETTLEMENT_CHOOSE_PAIR_PLACE 136 /* the place of the preimage's pair in the list of pairs, from 0; else 0 */
 
 uint64_t fiber_settlement_choose(uint64_t h, bool for_remote, bool is_later, uint64_t time, uint64_t header_number,
                                  uint64_t header_index, uint64_t header_length, uint64_t current_number,

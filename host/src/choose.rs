@@ -178,7 +178,7 @@ pub enum Way {
     /// By the preimage of this pair, a place in [`Request::preimages`] counted in pairs.
     Preimage {
         /// Which pair.
-        pair: usize,
+        pair_place: usize,
     },
 }
 
@@ -227,12 +227,12 @@ mod c {
     pub const DELAY_NUMBER: usize = 72;
     pub const DELAY_INDEX: usize = 80;
     pub const DELAY_LENGTH: usize = 88;
-    pub const RECORD: usize = 96;
+    pub const RECORD_PLACE: usize = 96;
     pub const RECORD_LENGTH: usize = 104;
     pub const UNLOCK_LENGTH: usize = 112;
     pub const STATE_LENGTH: usize = 120;
     pub const ARGS_LENGTH: usize = 128;
-    pub const PAIR: usize = 136;
+    pub const PAIR_PLACE: usize = 136;
 
     extern "C" {
         pub fn fiber_settlement_choose(
@@ -376,7 +376,9 @@ fn read_answer<'a, 'o>(answer: &[u8; c::ANSWER], slice: &'a [u8], out: &'o [u8])
         (0, UNLOCK_LOCAL) => Choice::Share(Side::Local),
         (0, UNLOCK_REMOTE) => Choice::Share(Side::Remote),
         (1, place) => Choice::Tlc { place: place.into(), way: Way::Timeout },
-        (2, place) => Choice::Tlc { place: place.into(), way: Way::Preimage { pair: size(c::PAIR) } },
+        (2, place) => {
+            Choice::Tlc { place: place.into(), way: Way::Preimage { pair_place: size(c::PAIR_PLACE) } }
+        }
         (kind, byte) => {
             unreachable!("the library answered kind {kind} with byte {byte}, which its contract excludes")
         }
@@ -391,7 +393,7 @@ fn read_answer<'a, 'o>(answer: &[u8; c::ANSWER], slice: &'a [u8], out: &'o [u8])
         amount: u128::from(number(c::AMOUNT_HIGH)) << 64 | u128::from(number(c::AMOUNT_LOW)),
         key: if number(c::KEY_KIND) == 1 { Key::OfTlc(size(c::KEY_PLACE)) } else { Key::Settlement },
         delay: (number(c::DELAY_KIND) == 1).then_some(delay),
-        record: &slice[size(c::RECORD)..][..size(c::RECORD_LENGTH)],
+        record: &slice[size(c::RECORD_PLACE)..][..size(c::RECORD_LENGTH)],
         unlock,
         state,
         new_args: &rest[..size(c::ARGS_LENGTH)],

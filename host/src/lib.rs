@@ -49,8 +49,8 @@
 //! witness.extend([0; 65]);
 //!
 //! let found = read(20, &witness)?;
-//! assert_eq!((found.tlcs, found.unlocks), (0, 1));
-//! assert_eq!((found.share, found.first), (2, 74));
+//! assert_eq!((found.tlcs, found.unlock_count), (0, 1));
+//! assert_eq!((found.share_place, found.first_unlock), (2, 74));
 //!
 //! let mut state = [0; 73];
 //! let length = update(20, &witness, &mut state)?;
@@ -158,11 +158,11 @@ pub struct Read {
     /// n, the number of TLCs.
     pub tlcs: usize,
     /// The number of unlocks.
-    pub unlocks: usize,
+    pub unlock_count: usize,
     /// The place of the share part: remote share, then local share.
-    pub share: usize,
+    pub share_place: usize,
     /// The place of the first unlock, or the witness's length where there is none.
-    pub first: usize,
+    pub first_unlock: usize,
 }
 
 /// Why something was turned down, or waits: a number of document 01's table, and the place that goes with it.
@@ -235,9 +235,9 @@ mod c {
     pub const UPDATE_ANSWER: usize = 24;
     pub const PLACE: usize = 8;
     pub const READ_TLCS: usize = 16;
-    pub const READ_UNLOCKS: usize = 24;
-    pub const READ_SHARE: usize = 32;
-    pub const READ_FIRST: usize = 40;
+    pub const READ_UNLOCK_COUNT: usize = 24;
+    pub const READ_SHARE_PLACE: usize = 32;
+    pub const READ_FIRST_UNLOCK: usize = 40;
     pub const UPDATE_LENGTH: usize = 16;
 
     extern "C" {
@@ -289,7 +289,7 @@ fn done(number: u64, answer: &[u8]) -> Result<(), Refusal> {
 /// use fiber_settlement::{read, Read};
 ///
 /// let found = read(32, &[0; 74])?;
-/// assert_eq!(found, Read { tlcs: 0, unlocks: 0, share: 2, first: 74 });
+/// assert_eq!(found, Read { tlcs: 0, unlock_count: 0, share_place: 2, first_unlock: 74 });
 /// # Ok::<(), fiber_settlement::Refusal>(())
 /// ```
 pub fn read(h: u64, witness: &[u8]) -> Result<Read, Refusal> {
@@ -301,9 +301,9 @@ pub fn read(h: u64, witness: &[u8]) -> Result<Read, Refusal> {
     done(number, &answer)?;
     Ok(Read {
         tlcs: field(&answer, c::READ_TLCS) as usize,
-        unlocks: field(&answer, c::READ_UNLOCKS) as usize,
-        share: field(&answer, c::READ_SHARE) as usize,
-        first: field(&answer, c::READ_FIRST) as usize,
+        unlock_count: field(&answer, c::READ_UNLOCK_COUNT) as usize,
+        share_place: field(&answer, c::READ_SHARE_PLACE) as usize,
+        first_unlock: field(&answer, c::READ_FIRST_UNLOCK) as usize,
     })
 }
 

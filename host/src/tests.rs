@@ -36,7 +36,10 @@ fn listed(h: usize, n: u8, unlocks: &[u8]) -> Vec<u8> {
 #[test]
 fn marked_rows() {
     for h in [20, 32] {
-        assert_eq!(read(h, &[0; 74]), Ok(Read { tlcs: 0, unlocks: 0, share: 2, first: 74 }));
+        assert_eq!(
+            read(h, &[0; 74]),
+            Ok(Read { tlcs: 0, unlock_count: 0, share_place: 2, first_unlock: 74 })
+        );
         assert_eq!(refused(read(h, &[0; 73])), (SHARES_CUT, 2));
     }
 }
@@ -207,7 +210,7 @@ mod choices {
             Choice::Share(Side::Local) => (0, 0xff, 0),
             Choice::Share(Side::Remote) => (0, 0xfe, 0),
             Choice::Tlc { place, way: Way::Timeout } => (1, place, 0),
-            Choice::Tlc { place, way: Way::Preimage { pair } } => (2, place, pair),
+            Choice::Tlc { place, way: Way::Preimage { pair_place } } => (2, place, pair_place),
         };
         let key = match chosen.key {
             Key::Settlement => "0 0".to_string(),

@@ -239,7 +239,12 @@ pub fn read(random: &mut Random, h: u64, witness: &[u8]) -> Called<Read> {
         |answer, size| unsafe { READ(h, text.reading(), witness.len(), answer, size) },
         |bytes| {
             let field = |at| u64_at(bytes, at) as usize;
-            Ok(Read { n: field(16), unlocks: field(24), shares: field(32), first: field(40) })
+            Ok(Read {
+                n: field(16),
+                unlock_count: field(24),
+                share_place: field(32),
+                first_unlock: field(40),
+            })
         },
     );
     text.only(0)?;

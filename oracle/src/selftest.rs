@@ -122,9 +122,9 @@ fn marked_rows() {
         assert_eq!(calls::expiry(since), Rust::Value(answer));
         assert_eq!(document::absolute_expiry(since), Document::Value(answer));
     }
-    assert_eq!(calls::read(20, &[0; 74]).map(|read| (read.n, read.unlocks)), Some((0, 0)));
+    assert_eq!(calls::read(20, &[0; 74]).map(|read| (read.n, read.unlock_count)), Some((0, 0)));
     assert_eq!(calls::read(20, &[0; 73]), None);
-    let read = settlement::Read { n: 0, unlocks: 0, shares: 2, first: 74 };
+    let read = settlement::Read { n: 0, unlock_count: 0, share_place: 2, first_unlock: 74 };
     assert_eq!(settlement::read(20, &[0; 74]), Document::Value(read));
     assert_eq!(settlement::read(20, &[0; 73]), Document::Row(settlement::SHARES_CUT, 2));
     println!("document 01's nine marked rows hold in the sliced text");

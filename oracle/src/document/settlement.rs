@@ -114,7 +114,7 @@ struct Unlock {
 
 struct Parts {
     state: State,
-    shares: usize,
+    share_place: usize,
     unlocks: Vec<Unlock>,
 }
 
@@ -134,16 +134,16 @@ fn parts(h: usize, witness: &[u8]) -> Answer<Parts> {
         }
         tlcs.push(witness[at..at + size].to_vec());
     }
-    let shares = 2 + n * size;
-    if !there(shares, 72) {
-        return at_its_first_byte(SHARES_CUT, shares);
+    let share_place = 2 + n * size;
+    if !there(share_place, 72) {
+        return at_its_first_byte(SHARES_CUT, share_place);
     }
     let share =
         |at: usize| Share { key: witness[at..at + 20].to_vec(), amount: number(&witness[at + 20..at + 36]) };
     let places = (0..n).map(|k| 2 + k * size).collect();
-    let state = State { tlcs, places, remote: share(shares), local: share(shares + 36) };
+    let state = State { tlcs, places, remote: share(share_place), local: share(share_place + 36) };
     let mut unlocks = vec![];
-    let mut at = shares + 72;
+    let mut at = share_place + 72;
     while at < witness.len() {
         if !there(at, 67) || witness[at + 1] == 1 && !there(at, 99) {
             return at_its_first_byte(UNLOCK_CUT, at);
@@ -152,7 +152,7 @@ fn parts(h: usize, witness: &[u8]) -> Answer<Parts> {
         at += if unlock.flag == 1 { 99 } else { 67 };
         unlocks.push(unlock);
     }
-    Ok(Parts { state, shares, unlocks })
+    Ok(Parts { state, share_place, unlocks })
 }
 
 fn hash_length(h: u64) -> Answer<usize> {
@@ -164,19 +164,17 @@ fn hash_length(h: u64) -> Answer<usize> {
 #[derive(Clone, Debug, PartialEq, Eq)]
 pub struct Read {
     pub n: usize,
-    pub unlocks: usize,
-    /// Place of the share part.
-    pub shares: usize,
-    /// Place of the first unlock.
-    pub first: usize,
+    pub unlock_count: usize,
+    pub share_place: usize,
+    pub first_unlock: usize,
 }
 
 pub fn read(h: u64, witness: &[u8]) -> Document<Read> {
     document(hash_length(h).and_then(|h| parts(h, witness)).map(|parts| Read {
         n: parts.state.tlcs.len(),
-        unlocks: parts.unlocks.len(),
-        shares: parts.shares,
-        first: parts.shares + 72,
+        unlock_count: parts.unlocks.len(),
+        share_place: parts.share_place,
+        first_unlock: parts.share_place + 72,
     }))
 }
 

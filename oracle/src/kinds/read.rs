@@ -28,9 +28,9 @@ impl Kind for Reader {
             None => Rust::TurnedDown,
             Some(read) => Rust::Value(Read {
                 n: read.n,
-                unlocks: read.unlocks,
-                shares: (1 + read.written.len()).saturating_sub(72),
-                first: 1 + read.written.len(),
+                unlock_count: read.unlock_count,
+                share_place: (1 + read.written.len()).saturating_sub(72),
+                first_unlock: 1 + read.written.len(),
             }),
         }
     }
@@ -49,7 +49,7 @@ impl Kind for Reader {
     }
 
     fn class(_: &Input, read: &Read) -> &'static str {
-        match (read.n, read.unlocks) {
+        match (read.n, read.unlock_count) {
             (253.., _) => "n 253 to 255",
             (0, 0) => "n 0, no unlocks",
             (0, _) => "n 0, unlocks",
@@ -59,6 +59,6 @@ impl Kind for Reader {
     }
 
     fn show_value(read: &Read) -> String {
-        format!("{} {} {} {}", read.n, read.unlocks, read.shares, read.first)
+        format!("{} {} {} {}", read.n, read.unlock_count, read.share_place, read.first_unlock)
     }
 }

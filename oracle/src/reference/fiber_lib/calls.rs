@@ -121,7 +121,7 @@ pub fn features(h: u8) -> ChannelFeatures {
 #[derive(Debug, Clone, PartialEq, Eq)]
 pub struct Read {
     pub n: usize,
-    pub unlocks: usize,
+    pub unlock_count: usize,
     /// The state, as the reference writes it back.
     pub written: Vec<u8>,
 }
@@ -129,7 +129,7 @@ pub struct Read {
 /// None: the reference turns the witness down.
 pub fn read(h: u8, witness: &[u8]) -> Option<Read> {
     let read = SettlementWitness::build_from_witness(witness, features(h))?;
-    Some(Read { n: read.pending_htlc_count, unlocks: read.unlocks.len(), written: read.to_witness() })
+    Some(Read { n: read.pending_htlc_count, unlock_count: read.unlocks.len(), written: read.to_witness() })
 }
 
 /// The unlocks, as the reference writes them back.
