@@ -7,8 +7,8 @@
 #include <string.h>
 #include <time.h>
 
-void fiber_test_ckb_hash(const uint8_t *s, size_t n, uint8_t *out);
-void fiber_test_sha256(const uint8_t *s, size_t n, uint8_t *out);
+void fiber_settlement_ckb_hash(const uint8_t *s, size_t n, uint8_t *out);
+void fiber_settlement_sha256(const uint8_t *s, size_t n, uint8_t *out);
 void plain_sha256(const uint8_t *s, size_t n, uint8_t *out);
 
 static uint8_t text[1 << 20], out[64];
@@ -52,7 +52,7 @@ int main(void) {
     for (size_t i = 0; i < sizeof text; i++) text[i] = (uint8_t)(i * 7 + i / 251);
     for (size_t n = 0; n < 300; n++) {
         uint8_t a[32], b[32], c[32];
-        fiber_test_sha256(text, n, a);
+        fiber_settlement_sha256(text, n, a);
         plain_sha256(text, n, b);
         openssl_sha256(text, n, c);
         if (memcmp(a, c, 32) || memcmp(b, c, 32)) {
@@ -60,11 +60,11 @@ int main(void) {
             return 1;
         }
     }
-    compare("ckb_hash", fiber_test_ckb_hash, "OpenSSL BLAKE2b-512", openssl_blake2b, 33);
-    compare("ckb_hash", fiber_test_ckb_hash, "OpenSSL BLAKE2b-512", openssl_blake2b, sizeof text);
-    compare("sha256", fiber_test_sha256, "plain C", plain_sha256, 32);
-    compare("sha256", fiber_test_sha256, "plain C", plain_sha256, sizeof text);
-    compare("sha256", fiber_test_sha256, "OpenSSL SHA-256 (with SHA instructions where the processor has them)", openssl_sha256, sizeof text);
+    compare("ckb_hash", fiber_settlement_ckb_hash, "OpenSSL BLAKE2b-512", openssl_blake2b, 33);
+    compare("ckb_hash", fiber_settlement_ckb_hash, "OpenSSL BLAKE2b-512", openssl_blake2b, sizeof text);
+    compare("sha256", fiber_settlement_sha256, "plain C", plain_sha256, 32);
+    compare("sha256", fiber_settlement_sha256, "plain C", plain_sha256, sizeof text);
+    compare("sha256", fiber_settlement_sha256, "OpenSSL SHA-256 (with SHA instructions where the processor has them)", openssl_sha256, sizeof text);
     EVP_MD_CTX_free(ctx);
     return 0;
 }

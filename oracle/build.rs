@@ -3,7 +3,7 @@
 //!
 //! FIBER_SRC names the reference: a checkout of nervosnetwork/fiber at 21c4dfbdbd, or a folder in which that
 //! checkout's file `a/b/c.rs` is called `src--a--b--c.rs.txt`. Nothing of the reference is kept in this package.
-//! SETTLEMENT_LIB names the folder that holds libtypes_c.a and libsettlement_c.a (tools/libraries writes them).
+//! SETTLEMENT_LIB names the folder that holds libsettlement_c.a (tools/libraries writes it).
 
 mod scan;
 
@@ -12,8 +12,8 @@ use std::collections::BTreeMap;
 use std::path::{Path, PathBuf};
 use std::{env, fs, process};
 
-/// The port's libraries: the C interface of the lower face, and that of the upper one.
-const LIBRARIES: &[&str] = &["types_c", "settlement_c"];
+/// The port's library: the whole C interface.
+const LIBRARIES: &[&str] = &["settlement_c"];
 
 /// What is taken from a file.
 enum Take {
@@ -167,6 +167,7 @@ const HAND_OVER: &str = "
         new_args: new_commitment_lock_script_args,
         is_first_settlement,
         delay: delay_epoch,
+        last: two_parties_all_settled,
     }));
 }
 ";
@@ -211,7 +212,7 @@ fn main() {
     write(&out.join("tokens.tsv"), &answering.tokens);
     say_lines(&[answering, caller]);
 
-    link(&folder("SETTLEMENT_LIB", "the folder of libtypes_c.a and libsettlement_c.a"));
+    link(&folder("SETTLEMENT_LIB", "the folder of libsettlement_c.a"));
 }
 
 /// One line for each file: which of its lines were taken. Cargo shows it at every build.

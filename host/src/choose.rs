@@ -1,401 +1,405 @@
 //! The choice of the next unlock.
 
-use crate::{done, field, state_length, Refusal, UNLOCK_LOCAL, UNLOCK_REMOTE, UNLOCK_WITH_PREIMAGE};
+use std::fmt;
 
-// ---- What is lent ----
+use crate::layout as l;
+use crate::preimage::{flat, Preimage};
+use crate::state::{first_parts, Balances};
+use crate::{c, first_state, Cause, Commitment, Epoch, LockArgs, MedianTime, Refusal};
+use crate::{SettlementTlcs, TrackedTlcs, Witness, CHAIN_PREFIX};
 
-/// An epoch: number + index / length. The number has 24 bits, index and length have 16.
-#[derive(Clone, Copy, Debug, PartialEq, Eq, Hash)]
-pub struct Epoch {
-    /// The whole part.
-    pub number: u64,
-    /// The numerator of the rest. It may exceed the length.
-    pub index: u64,
-    /// The denominator.
-    pub length: u64,
-}
+// ---- What is asked ----
 
-/// How a payment hash was made.
-#[derive(Clone, Copy, Debug, PartialEq, Eq, Hash)]
-pub enum Algorithm {
-    /// CKB's hash, BLAKE2b-256 with its personalisation.
-    Ckb = 0,
-    /// SHA-256.
-    Sha256 = 1,
-}
-
-/// The bytes of a public key.
-pub const KEY: usize = 33;
-/// The bytes of a settlement TLC in [`Request::tlcs`].
-pub const SETTLEMENT_TLC: usize = 124;
-/// The bytes of a tracked TLC beside those of its payment hash in the record: hash 32, algorithm 1, record 65 + h.
-pub const TRACKED_FIXED: usize = 98;
-/// The bytes of a pair in [`Request::preimages`]: hash 32, preimage 32.
-pub const PAIR: usize = 64;
-
-/// A settlement TLC, before it is lent.
+/// All that the choice looks at.
 ///
-/// ```
-/// use fiber_settlement::{Algorithm, SettlementTlc, SETTLEMENT_TLC};
+/// What could contradict each other is said once: the hash length comes from the lock args, whose commitment it is
+/// from the settlement TLCs, whether the settlement is the first or a later one from the lock args.
 ///
-/// let tlc = SettlementTlc {
-///     received: true,
-///     algorithm: Algorithm::Sha256,
-///     amount: 100,
-///     hash: [7; 32],
-///     expiry: 6_000,
-///     local_key: [2; 33],
-///     remote_key: [3; 33],
+/// ```compile_fail,E0063
+/// # use fiber_settlement::*;
+/// # fn ask(tlcs: &SettlementTlcs, tracked: &TrackedTlcs, balances: &Balances, now: MedianTime, epoch: Epoch) {
+/// // Without the lock args there is no request.
+/// let request = Request {
+///     tlcs,
+///     tracked,
+///     balances,
+///     preimages: &[],
+///     witness: None,
+///     time: now,
+///     cell_epoch: epoch,
+///     tip_epoch: epoch,
 /// };
-/// let list: Vec<u8> = [tlc, tlc].iter().flat_map(|tlc| tlc.to_bytes()).collect();
-/// assert_eq!(list.len(), 2 * SETTLEMENT_TLC);
+/// # }
 /// ```
-#[derive(Clone, Copy, Debug, PartialEq, Eq, Hash)]
-pub struct SettlementTlc {
-    /// Did the local side receive it? Else it offered it.
-    pub received: bool,
-    /// How its hash was made.
-    pub algorithm: Algorithm,
-    /// What it pays.
-    pub amount: u128,
-    /// The payment hash, whole.
-    pub hash: [u8; 32],
-    /// When it expires, in milliseconds.
-    pub expiry: u64,
-    /// The local side's public key for it.
-    pub local_key: [u8; KEY],
-    /// The remote side's.
-    pub remote_key: [u8; KEY],
-}
-
-impl SettlementTlc {
-    /// An entry of [`Request::tlcs`].
-    pub fn to_bytes(&self) -> [u8; SETTLEMENT_TLC] {
-        let mut bytes = [0; SETTLEMENT_TLC];
-        bytes[0] = u8::from(self.received);
-        bytes[1] = self.algorithm as u8;
-        bytes[2..18].copy_from_slice(&self.amount.to_le_bytes());
-        bytes[18..50].copy_from_slice(&self.hash);
-        bytes[50..58].copy_from_slice(&self.expiry.to_le_bytes());
-        bytes[58..91].copy_from_slice(&self.local_key);
-        bytes[91..].copy_from_slice(&self.remote_key);
-        bytes
-    }
-}
-
-/// Adds a tracked TLC to a list for [`Request::tracked`]: its whole hash, its algorithm, and its record (65 + h bytes) as
-/// it stands in a witness.
-///
-/// ```
-/// use fiber_settlement::{push_tracked, Algorithm, TRACKED_FIXED};
-///
-/// let mut list = vec![];
-/// push_tracked(&mut list, &[7; 32], Algorithm::Ckb, &[0; 85]);
-/// assert_eq!(list.len(), TRACKED_FIXED + 20);
-/// ```
-pub fn push_tracked(list: &mut Vec<u8>, hash: &[u8; 32], algorithm: Algorithm, record: &[u8]) {
-    list.extend_from_slice(hash);
-    list.push(algorithm as u8);
-    list.extend_from_slice(record);
-}
-
-/// All that the choice looks at. Lists are flat: entries one behind another.
 #[derive(Clone, Copy, Debug)]
 pub struct Request<'a> {
-    /// How many bytes of a payment hash a record holds: 20 or 32.
-    pub h: u64,
-    /// Is it a settlement of the remote side's commitment? Then our slot is the local one.
-    pub for_remote: bool,
-    /// Now, in milliseconds.
-    pub time: u64,
-    /// The epoch of the header that the cell is in.
-    pub header: Epoch,
-    /// The current epoch.
-    pub current: Epoch,
-    /// What the local side owns.
-    pub local_amount: u128,
-    /// What the remote side owns.
-    pub remote_amount: u128,
-    /// The cell's lock args. Bytes 20 to 27 hold the delay.
-    pub args: &'a [u8],
-    /// The settlement TLCs, [`SETTLEMENT_TLC`] bytes each.
-    pub tlcs: &'a [u8],
-    /// Our settlement key.
-    pub local_key: &'a [u8; KEY],
-    /// The other side's.
-    pub remote_key: &'a [u8; KEY],
-    /// The tracked TLCs, [`TRACKED_FIXED`] + h bytes each.
-    pub tracked: &'a [u8],
-    /// The stored preimages, [`PAIR`] bytes each. Of several with one hash the first alone is looked at.
-    pub preimages: &'a [u8],
-    /// The witness of a later settlement. `None`: it is the first.
-    pub witness: Option<&'a [u8]>,
+    /// The lock args of the cell that is to be spent.
+    pub args: &'a LockArgs,
+    /// The settlement TLCs of the commitment, all of them in a later settlement too.
+    pub tlcs: &'a SettlementTlcs,
+    /// The TLCs that stand in the cell.
+    pub tracked: &'a TrackedTlcs,
+    /// What both sides own by the commitment, and their settlement keys.
+    pub balances: &'a Balances,
+    /// The stored preimages.
+    pub preimages: &'a [Preimage],
+    /// The witness of the settlement transaction that made the cell. `None` for the commitment transaction's own cell.
+    pub witness: Option<&'a Witness<'a>>,
+    /// The tip's median block time.
+    pub time: MedianTime,
+    /// The epoch of the header of the block that holds the cell.
+    pub cell_epoch: Epoch,
+    /// The epoch of the tip's header.
+    pub tip_epoch: Epoch,
 }
 
-impl Request<'_> {
+impl<'a> Request<'a> {
+    /// Whose commitment it is.
+    pub const fn commitment(&self) -> Commitment {
+        self.tlcs.commitment()
+    }
+
     /// The most bytes that [`choose`] writes for this request.
     pub fn output_length(&self) -> usize {
-        let args = self.args.len().max(57);
         let state = match self.witness {
-            // No state is longer than the witness that it is left of.
-            Some(witness) => witness.len(),
-            None => state_length(32, self.tlcs.len() / SETTLEMENT_TLC),
+            Some(witness) => witness.left().as_bytes().len(),
+            None => self.args.hash_length().state(self.tlcs.len()),
         };
-        UNLOCK_WITH_PREIMAGE + state + args
+        l::UNLOCK_WITH_PREIMAGE + state + self.args.as_bytes().len()
+    }
+
+    /// Turns down what the library cannot see: parts that do not belong together, and a state that is not the cell's.
+    fn check(&self) -> Result<(), Refusal> {
+        let hash_length = self.args.hash_length();
+        if self.tracked.hash_length() != hash_length || !self.tracked.is_from(self.tlcs) {
+            return Err(Refusal::Mixed { part: "tracked list" });
+        }
+        let matches = match self.witness {
+            Some(_) if self.args.is_first() => return Err(Refusal::WitnessOfFirst),
+            None if self.args.is_later() => return Err(Refusal::WitnessMissing),
+            Some(witness) if witness.hash_length() != hash_length => {
+                return Err(Refusal::Mixed { part: "witness" });
+            }
+            Some(witness) => witness.state_matches(self.args),
+            None if self.is_after_tip() => return Err(Refusal::CellAfterTip),
+            None => first_state(hash_length, self.tlcs, self.balances)?.matches(self.args),
+        };
+        match matches {
+            true => Ok(()),
+            false => Err(Refusal::StateDiffers),
+        }
+    }
+
+    /// Is the cell's epoch after the tip's, as it is where the two are swapped? A length of 0 is left to the library.
+    fn is_after_tip(&self) -> bool {
+        let no_delay = [0, 0, 1];
+        c::is_due(self.cell_epoch.parts(), no_delay, self.tip_epoch.parts()) == Ok(0)
+    }
+
+    /// As C takes it.
+    fn parts(&self) -> c::Choose<'a> {
+        c::Choose {
+            first: first_parts(self.args.hash_length(), self.tlcs, self.balances),
+            is_later: u8::from(self.witness.is_some()),
+            time: self.time.millis(),
+            header: self.cell_epoch.parts(),
+            current: self.tip_epoch.parts(),
+            args: self.args.as_bytes(),
+            tracked: self.tracked.as_bytes(),
+            preimages: flat(self.preimages),
+            witness: self.witness.map_or(&[], |witness| witness.as_bytes()),
+        }
     }
 }
 
 // ---- What is answered ----
 
+/// What a choice comes to.
+#[derive(Clone, Copy, Debug, PartialEq, Eq)]
+#[must_use]
+pub enum Outcome<'a, 'o> {
+    /// Unlock this now.
+    Unlock(Chosen<'a, 'o>),
+    /// Nothing is wrong, and there is nothing to do yet.
+    Wait(Cause),
+}
+
 /// What is unlocked.
 #[derive(Clone, Copy, Debug, PartialEq, Eq, Hash)]
-pub enum Choice {
-    /// Our share. The side says which slot it is in.
-    Share(Side),
+pub enum Unlocked {
+    /// Our share.
+    OurShare,
     /// A TLC.
     Tlc {
-        /// Its place in the state.
+        /// Its place in the state, and among the tracked TLCs.
         place: usize,
         /// How it is taken.
         way: Way,
     },
 }
 
-/// A slot of the share part.
-#[derive(Clone, Copy, Debug, PartialEq, Eq, Hash)]
-pub enum Side {
-    /// Unlock byte 0xFF.
-    Local,
-    /// Unlock byte 0xFE.
-    Remote,
-}
-
 /// How a TLC is taken.
 #[derive(Clone, Copy, Debug, PartialEq, Eq, Hash)]
 pub enum Way {
-    /// It expired.
+    /// We offered it, and it has expired.
     Timeout,
-    /// By the preimage of this pair, a place in [`Request::preimages`] counted in pairs.
+    /// They offered it, and we have a preimage.
     Preimage {
-        /// Which pair.
-        pair_place: usize,
+        /// Its place in [`Request::preimages`].
+        pair: usize,
     },
 }
 
-/// Which key signs the unlock.
+/// Which of our keys signs the unlock.
 #[derive(Clone, Copy, Debug, PartialEq, Eq, Hash)]
 pub enum Key {
     /// Our settlement key.
     Settlement,
-    /// The local key of the settlement TLC at this place of [`Request::tlcs`].
+    /// Our key of the settlement TLC at this place of [`Request::tlcs`].
     OfTlc(usize),
 }
 
-/// The next unlock. The parts `'a` lie in what was lent, the parts `'o` in the output.
-#[derive(Clone, Copy, Debug, PartialEq, Eq)]
+/// The next unlock. The parts `'a` lie in what was lent, the parts `'o` in the output. `Debug` does not show the
+/// preimage.
+#[derive(Clone, Copy, PartialEq, Eq)]
+#[non_exhaustive]
 pub struct Chosen<'a, 'o> {
     /// What is unlocked.
-    pub choice: Choice,
-    /// The TLC's amount, or the share's.
+    pub unlocks: Unlocked,
+    /// The TLC's amount, or the share's. In the last settlement the whole cell is paid out instead
+    /// ([`is_last`](Chosen::is_last)).
     pub amount: u128,
     /// Which key signs.
     pub key: Key,
-    /// The delay that the input has to wait for. `None` in a later settlement.
+    /// The delay that the commitment input has to wait for. `None` in a later settlement.
     pub delay: Option<Epoch>,
-    /// The record of the TLC that was chosen: a part of the witness, or in a first settlement of the tracked list. For
-    /// a share it is empty.
+    /// The record of the TLC: a part of the witness, or in a first settlement of the tracked list. For a share it is
+    /// empty.
     pub record: &'a [u8],
-    /// The unlock, with zeros where its signature goes ([`UNLOCK_SIGNATURE`](crate::UNLOCK_SIGNATURE)).
+    /// The unlock, with 65 zeros where its signature goes, and the preimage behind it.
     pub unlock: &'o [u8],
     /// The state before the unlock.
     pub state: &'o [u8],
-    /// The lock args of the cell that is left.
-    pub new_args: &'o [u8],
+    /// The lock args of the cell that is made. In the last settlement none is.
+    pub new_args: LockArgs,
+    last: bool,
+    time: MedianTime,
+}
+
+impl Chosen<'_, '_> {
+    /// Is this the last settlement? The other party's share was paid out before, so all that is in the cell is ours,
+    /// TLCs that still stand included. The reference then makes no successor cell, and pays out the cell's whole
+    /// capacity, of a UDT cell all its tokens as well: not [`amount`](Chosen::amount) alone.
+    pub const fn is_last(&self) -> bool {
+        self.last
+    }
+
+    /// The since of the commitment input: the delay as a relative epoch, 0 in a later settlement.
+    pub fn input_since(&self) -> u64 {
+        self.delay.map_or(0, Epoch::to_since)
+    }
+
+    /// The since of the transaction's other inputs: for a TLC by timeout an absolute timestamp, by which the lock
+    /// tells that the TLC has expired, else 0.
+    pub const fn other_inputs_since(&self) -> u64 {
+        match self.unlocks {
+            Unlocked::Tlc { way: Way::Timeout, .. } => self.time.to_since(),
+            _ => 0,
+        }
+    }
+
+    /// The witness of the commitment input as it goes on chain: the 16 bytes in front, the unlock count 1, the state,
+    /// and the unlock with its signature in place.
+    ///
+    /// The key that [`key`](Chosen::key) names signs, in the reference, the CKB hash of the raw transaction with its
+    /// cell deps left out: no witness is in it, so the signature can be put in last. A signature is r and s, 64
+    /// bytes, and the recovery id. For a size or a fee ask with zeros.
+    pub fn signed_witness(&self, signature: &[u8; l::SIGNATURE]) -> Vec<u8> {
+        let (front, rest) = self.unlock.split_at(l::UNLOCK_SIGNATURE);
+        [&CHAIN_PREFIX[..], &[1], self.state, front, signature, &rest[l::SIGNATURE..]].concat()
+    }
+}
+
+impl fmt::Debug for Chosen<'_, '_> {
+    fn fmt(&self, f: &mut fmt::Formatter<'_>) -> fmt::Result {
+        f.debug_struct("Chosen")
+            .field("unlocks", &self.unlocks)
+            .field("amount", &self.amount)
+            .field("key", &self.key)
+            .field("delay", &self.delay)
+            .field("last", &self.last)
+            .field("new_args", &self.new_args)
+            .finish_non_exhaustive()
+    }
 }
 
 // ---- The operation ----
 
-mod c {
-    pub const ANSWER: usize = 144;
-    pub const KIND: usize = 16;
-    pub const BYTE: usize = 24;
-    pub const AMOUNT_LOW: usize = 32;
-    pub const AMOUNT_HIGH: usize = 40;
-    pub const KEY_KIND: usize = 48;
-    pub const KEY_PLACE: usize = 56;
-    pub const DELAY_KIND: usize = 64;
-    pub const DELAY_NUMBER: usize = 72;
-    pub const DELAY_INDEX: usize = 80;
-    pub const DELAY_LENGTH: usize = 88;
-    pub const RECORD_PLACE: usize = 96;
-    pub const RECORD_LENGTH: usize = 104;
-    pub const UNLOCK_LENGTH: usize = 112;
-    pub const STATE_LENGTH: usize = 120;
-    pub const ARGS_LENGTH: usize = 128;
-    pub const PAIR_PLACE: usize = 136;
-
-    extern "C" {
-        pub fn fiber_settlement_choose(
-            h: u64,
-            for_remote: bool,
-            is_later: bool,
-            time: u64,
-            header_number: u64,
-            header_index: u64,
-            header_length: u64,
-            current_number: u64,
-            current_index: u64,
-            current_length: u64,
-            local_low: u64,
-            local_high: u64,
-            remote_low: u64,
-            remote_high: u64,
-            args: *const u8,
-            args_len: usize,
-            tlcs: *const u8,
-            tlcs_len: usize,
-            local_key: *const u8,
-            local_key_len: usize,
-            remote_key: *const u8,
-            remote_key_len: usize,
-            tracked: *const u8,
-            tracked_len: usize,
-            preimages: *const u8,
-            preimages_len: usize,
-            witness: *const u8,
-            witness_len: usize,
-            out: *mut u8,
-            out_len: usize,
-            answer: *mut u8,
-            answer_len: usize,
-        ) -> u64;
-    }
-}
-
 /// Chooses what is unlocked next, and writes the unlock, the state before it and the new lock args to the front of
-/// `out`, joined. Behind them `out` is not changed; a refusal changes no byte of it.
+/// `out`, joined. Behind them `out` is not changed; a wait or a refusal changes no byte of it.
+///
+/// Before the library is asked the state is held against the lock args: in a first settlement the one that settlement
+/// TLCs, balances and commitment give, in a later one the one that the witness left. A list in the wrong view,
+/// amounts or keys of the wrong side, or a witness of another cell do not get past that.
+///
+/// ```
+/// use fiber_settlement::*;
+///
+/// // Our commitment without TLCs: our share, once the whole delay of 3 epochs is over.
+/// let tlcs = SettlementTlcs::new(Commitment::Ours, &[]);
+/// let balances =
+///     Balances { our_amount: 7, their_amount: 5, our_key: [2; 33], their_key: [3; 33] };
+/// let mut bytes = [0; 57];
+/// bytes[20..28].copy_from_slice(&Epoch::new(3, 0, 1)?.to_since().to_le_bytes());
+/// bytes[36..56].copy_from_slice(&first_state(HashLength::Short, &tlcs, &balances)?.hash());
+/// let args = LockArgs::parse(&bytes)?;
+///
+/// let tracked = TrackedTlcs::first(&tlcs, args.hash_length())?;
+/// let mut request = Request {
+///     args: &args,
+///     tlcs: &tlcs,
+///     tracked: &tracked,
+///     balances: &balances,
+///     preimages: &[],
+///     witness: None,
+///     time: MedianTime::from_millis(1_700_000_000_000),
+///     cell_epoch: Epoch::new(10, 0, 1)?,
+///     tip_epoch: Epoch::new(13, 0, 1)?,
+/// };
+/// let mut out = vec![0; request.output_length()];
+/// let Outcome::Unlock(chosen) = choose(&request, &mut out)? else { panic!("not due") };
+/// assert_eq!((chosen.unlocks, chosen.amount), (Unlocked::OurShare, 7));
+/// assert_eq!((chosen.key, chosen.input_since()), (Key::Settlement, args.delay()?.to_since()));
+/// assert!(!chosen.is_last() && chosen.new_args.is_later());
+/// let on_chain = chosen.signed_witness(&[9; 65]);
+/// assert!(Witness::from_chain(&on_chain, &args)?.state_matches(&chosen.new_args));
+///
+/// // A little earlier there is nothing to do yet.
+/// request.tip_epoch = Epoch::new(12, 999, 1000)?;
+/// assert_eq!(choose(&request, &mut out)?, Outcome::Wait(Cause::NothingQualifies));
+///
+/// // It is the other side's commitment? The lock args say that it is not.
+/// let turned = SettlementTlcs::new(Commitment::Theirs, &[]);
+/// let tracked = TrackedTlcs::first(&turned, args.hash_length())?;
+/// let wrong = Request { tlcs: &turned, tracked: &tracked, ..request };
+/// assert_eq!(choose(&wrong, &mut out), Err(Refusal::StateDiffers));
+/// # Ok::<(), Box<dyn std::error::Error>>(())
+/// ```
 ///
 /// # Errors
 ///
-/// In this order: [`NOT_WELL`](crate::NOT_WELL); [`ARGS_SHORT`](crate::ARGS_SHORT), [`NO_DELAY`](crate::NO_DELAY); in a
-/// later settlement those of [`update`](crate::update), in a first one [`LENGTH_ZERO`](crate::LENGTH_ZERO);
-/// [`TOO_MANY_TLCS`](crate::TOO_MANY_TLCS); then the waits [`LIST_DIFFERS`](crate::LIST_DIFFERS),
-/// [`NOT_OUR_SHARE`](crate::NOT_OUR_SHARE) and [`NOTHING_QUALIFIES`](crate::NOTHING_QUALIFIES), for which
-/// [`Refusal::is_wait`] holds; [`OUTPUT_SHORT`](crate::OUTPUT_SHORT).
-///
-/// ```
-/// use fiber_settlement::{choose, Choice, Epoch, Key, Request, Side, NOTHING_QUALIFIES};
-///
-/// // A first settlement without TLCs: our share, once the whole delay of 3 epochs is due.
-/// let mut args = [0; 57];
-/// args[20..28].copy_from_slice(&(0xa000_0100_0000_0003u64).to_le_bytes());
-/// let mut request = Request {
-///     h: 20,
-///     for_remote: true,
-///     time: 0,
-///     header: Epoch { number: 10, index: 0, length: 1 },
-///     current: Epoch { number: 13, index: 0, length: 1 },
-///     local_amount: 7,
-///     remote_amount: 5,
-///     args: &args,
-///     tlcs: &[],
-///     local_key: &[2; 33],
-///     remote_key: &[3; 33],
-///     tracked: &[],
-///     preimages: &[],
-///     witness: None,
-/// };
-/// let mut out = vec![0; request.output_length()];
-/// let chosen = choose(&request, &mut out)?;
-/// assert_eq!(chosen.choice, Choice::Share(Side::Local));
-/// assert_eq!((chosen.amount, chosen.key), (7, Key::Settlement));
-/// assert_eq!(chosen.delay, Some(Epoch { number: 3, index: 0, length: 1 }));
-/// assert_eq!((chosen.unlock.len(), chosen.state.len(), chosen.new_args.len()), (67, 73, 57));
-/// assert!(chosen.record.is_empty());
-///
-/// // A little earlier there is nothing to do yet.
-/// request.current = Epoch { number: 12, index: 999, length: 1000 };
-/// let refusal = choose(&request, &mut out).unwrap_err();
-/// assert_eq!(refusal.number, NOTHING_QUALIFIES);
-/// assert!(refusal.is_wait());
-/// # Ok::<(), fiber_settlement::Refusal>(())
-/// ```
-pub fn choose<'a, 'o>(request: &Request<'a>, out: &'o mut [u8]) -> Result<Chosen<'a, 'o>, Refusal> {
-    let Request { h, for_remote, time, header, current, args, tlcs, local_key, remote_key, .. } = *request;
-    let Request { tracked, preimages, local_amount, remote_amount, .. } = *request;
-    let witness = request.witness.unwrap_or(&[]);
-    let mut answer = [0; c::ANSWER];
-    // SAFETY: all pointers come from slices of the lengths said; Rust's borrows keep what is written apart from the rest.
-    let number = unsafe {
-        c::fiber_settlement_choose(
-            h,
-            for_remote,
-            request.witness.is_some(),
-            time,
-            header.number,
-            header.index,
-            header.length,
-            current.number,
-            current.index,
-            current.length,
-            local_amount as u64,
-            (local_amount >> 64) as u64,
-            remote_amount as u64,
-            (remote_amount >> 64) as u64,
-            args.as_ptr(),
-            args.len(),
-            tlcs.as_ptr(),
-            tlcs.len(),
-            local_key.as_ptr(),
-            local_key.len(),
-            remote_key.as_ptr(),
-            remote_key.len(),
-            tracked.as_ptr(),
-            tracked.len(),
-            preimages.as_ptr(),
-            preimages.len(),
-            witness.as_ptr(),
-            witness.len(),
-            out.as_mut_ptr(),
-            out.len(),
-            answer.as_mut_ptr(),
-            answer.len(),
-        )
-    };
-    done(number, &answer)?;
-    Ok(read_answer(&answer, request.witness.unwrap_or(tracked), out))
+/// This crate's own first: [`Refusal::Mixed`], [`Refusal::WitnessOfFirst`], [`Refusal::WitnessMissing`], in a first
+/// settlement [`Refusal::CellAfterTip`], [`Refusal::StateDiffers`]. Then the library's: [`Refusal::NoDelay`]; in a
+/// first settlement [`Refusal::LengthZero`]; [`Refusal::TooManyTlcs`]; [`Refusal::OutputShort`], which comes after
+/// the waits.
+pub fn choose<'a, 'o>(request: &Request<'a>, out: &'o mut [u8]) -> Result<Outcome<'a, 'o>, Refusal> {
+    c::ready()?;
+    request.check()?;
+    let parts = request.parts();
+    match c::choose(&parts, out) {
+        Ok(answer) => Ok(Outcome::Unlock(chosen(&Fields(answer), &parts, out)?)),
+        Err(code) => Cause::of(code).map(Outcome::Wait).ok_or_else(|| code.into()),
+    }
 }
 
-/// The answer of a success. `slice` is what the record is a part of.
-fn read_answer<'a, 'o>(answer: &[u8; c::ANSWER], slice: &'a [u8], out: &'o [u8]) -> Chosen<'a, 'o> {
-    let number = |at| field(answer, at);
-    let size = |at| number(at) as usize;
-    let (unlock, rest) = out.split_at(size(c::UNLOCK_LENGTH));
-    let (state, rest) = rest.split_at(size(c::STATE_LENGTH));
-    let choice = match (number(c::KIND), number(c::BYTE) as u8) {
-        (0, UNLOCK_LOCAL) => Choice::Share(Side::Local),
-        (0, UNLOCK_REMOTE) => Choice::Share(Side::Remote),
-        (1, place) => Choice::Tlc { place: place.into(), way: Way::Timeout },
-        (2, place) => {
-            Choice::Tlc { place: place.into(), way: Way::Preimage { pair_place: size(c::PAIR_PLACE) } }
-        }
-        (kind, byte) => {
-            unreachable!("the library answered kind {kind} with byte {byte}, which its contract excludes")
-        }
-    };
-    let delay = Epoch {
-        number: number(c::DELAY_NUMBER),
-        index: number(c::DELAY_INDEX),
-        length: number(c::DELAY_LENGTH),
-    };
-    Chosen {
-        choice,
-        amount: u128::from(number(c::AMOUNT_HIGH)) << 64 | u128::from(number(c::AMOUNT_LOW)),
-        key: if number(c::KEY_KIND) == 1 { Key::OfTlc(size(c::KEY_PLACE)) } else { Key::Settlement },
-        delay: (number(c::DELAY_KIND) == 1).then_some(delay),
-        record: &slice[size(c::RECORD_PLACE)..][..size(c::RECORD_LENGTH)],
+/// The answer of a success. A field that the header does not have is turned down, not guessed.
+pub(crate) struct Fields(pub c::Answer<{ l::CHOOSE_ANSWER }>);
+
+/// What is told of a success.
+fn chosen<'a, 'o>(fields: &Fields, parts: &c::Choose<'a>, out: &'o [u8]) -> Result<Chosen<'a, 'o>, Refusal> {
+    let [unlock, state, args] = fields.joined(out)?;
+    let lent = if parts.is_later == 1 { parts.witness } else { parts.tracked };
+    Ok(Chosen {
+        unlocks: fields.unlocks()?,
+        amount: fields.amount(),
+        key: fields.key()?,
+        delay: fields.delay()?,
+        record: fields.record(lent)?,
         unlock,
         state,
-        new_args: &rest[..size(c::ARGS_LENGTH)],
+        new_args: LockArgs::parse(args)
+            .map_err(|_| fields.odd("CHOOSE_ARGS_LENGTH", l::CHOOSE_ARGS_LENGTH))?,
+        last: fields.last()?,
+        time: MedianTime::from_millis(parts.time),
+    })
+}
+
+impl Fields {
+    fn odd(&self, field: &'static str, at: usize) -> Refusal {
+        Refusal::Answer { field, value: self.0.number(at) }
+    }
+
+    pub fn unlocks(&self) -> Result<Unlocked, Refusal> {
+        let place = self.0.place(l::CHOOSE_BYTE);
+        match self.0.number(l::CHOOSE_KIND) {
+            l::SHARE => Ok(Unlocked::OurShare),
+            l::BY_TIMEOUT => Ok(Unlocked::Tlc { place, way: Way::Timeout }),
+            l::BY_PREIMAGE => {
+                let pair = self.0.place(l::CHOOSE_PAIR_PLACE);
+                Ok(Unlocked::Tlc { place, way: Way::Preimage { pair } })
+            }
+            _ => Err(self.odd("CHOOSE_KIND", l::CHOOSE_KIND)),
+        }
+    }
+
+    pub fn amount(&self) -> u128 {
+        let half = |at| u128::from(self.0.number(at));
+        half(l::CHOOSE_AMOUNT_HIGH) << 64 | half(l::CHOOSE_AMOUNT_LOW)
+    }
+
+    pub fn key(&self) -> Result<Key, Refusal> {
+        match self.0.number(l::CHOOSE_KEY_KIND) {
+            l::KEY_OURS => Ok(Key::Settlement),
+            l::KEY_OF_TLC => Ok(Key::OfTlc(self.0.place(l::CHOOSE_KEY_PLACE))),
+            _ => Err(self.odd("CHOOSE_KEY_KIND", l::CHOOSE_KEY_KIND)),
+        }
+    }
+
+    pub fn delay(&self) -> Result<Option<Epoch>, Refusal> {
+        let places = [l::CHOOSE_DELAY_NUMBER, l::CHOOSE_DELAY_INDEX, l::CHOOSE_DELAY_LENGTH];
+        match self.0.number(l::CHOOSE_DELAY_KIND) {
+            l::NO_DELAY_OUT => Ok(None),
+            l::DELAY_OUT => {
+                Epoch::answered("CHOOSE_DELAY_NUMBER", places.map(|at| self.0.number(at))).map(Some)
+            }
+            _ => Err(self.odd("CHOOSE_DELAY_KIND", l::CHOOSE_DELAY_KIND)),
+        }
+    }
+
+    pub fn last(&self) -> Result<bool, Refusal> {
+        match self.0.number(l::CHOOSE_LAST) {
+            0 => Ok(false),
+            1 => Ok(true),
+            _ => Err(self.odd("CHOOSE_LAST", l::CHOOSE_LAST)),
+        }
+    }
+
+    /// The record, a part of what was lent.
+    pub fn record<'a>(&self, lent: &'a [u8]) -> Result<&'a [u8], Refusal> {
+        let (place, length) = (self.0.place(l::CHOOSE_RECORD_PLACE), self.0.place(l::CHOOSE_RECORD_LENGTH));
+        let part = lent.get(place..).and_then(|rest| rest.get(..length));
+        part.ok_or_else(|| self.odd("CHOOSE_RECORD_PLACE", l::CHOOSE_RECORD_PLACE))
+    }
+
+    /// Unlock, state and new args, joined at the front of the output.
+    pub fn joined<'o>(&self, out: &'o [u8]) -> Result<[&'o [u8]; 3], Refusal> {
+        let mut rest = out;
+        let mut parts = [&out[..0]; 3];
+        let places = [
+            ("CHOOSE_UNLOCK_LENGTH", l::CHOOSE_UNLOCK_LENGTH),
+            ("CHOOSE_STATE_LENGTH", l::CHOOSE_STATE_LENGTH),
+            ("CHOOSE_ARGS_LENGTH", l::CHOOSE_ARGS_LENGTH),
+        ];
+        for (part, (field, at)) in parts.iter_mut().zip(places) {
+            let length = self.0.place(at);
+            if length > rest.len() {
+                return Err(self.odd(field, at));
+            }
+            (*part, rest) = rest.split_at(length);
+        }
+        match parts[0].len() {
+            l::UNLOCK | l::UNLOCK_WITH_PREIMAGE => Ok(parts),
+            _ => Err(self.odd(places[0].0, places[0].1)),
+        }
     }
 }

@@ -1,379 +1,197 @@
 //! The settlement core of a Fiber watchtower, for a daemon in Rust.
 //!
-//! A settlement witness holds the TLCs that stand on a channel, what each side owns, and the unlocks that were made.
-//! [`read`] tells what a witness holds, [`update`] takes its unlocks and writes the state left, and with the feature
-//! `choose` the function of that name says what is unlocked next. The work is done by libsettlement_c.a, a library whose
-//! functions are proved to meet their contracts; this crate lends it slices and turns its answers into Rust's. It has no
-//! dependencies, allocates only in [`updated`], and keeps no state: every function may be called from any thread.
+//! A tower finds a commitment cell on chain and asks: what can we unlock now, with which key, and what does the next
+//! cell look like? [`choose`] answers that. The rest of the crate makes what it is asked with, and reads what is on
+//! chain. Signing, fees and finding cells stay with the host.
+//!
+//! The work is done by libsettlement_c.a, a static library whose functions are proved to meet their contracts. This
+//! crate lends it slices and turns its answers into types that do not let a host mix up sides, hash lengths or cells.
+//! It has no dependencies and keeps no state but the library's version, which it looks at once: every function may be
+//! called from any thread. "The reference" is nervosnetwork/fiber at commit 21c4dfbdbd.
 //!
 //! # How a daemon links it
-//!
-//! In the repository's root `rt staticlib settlement_c` writes target/staticlib/libsettlement_c.a (Linux on x86-64).
-//! The daemon names this crate, and its build names that folder:
 //!
 //! ```toml
 //! [dependencies]
 //! fiber_settlement = { path = "../settlement/host" }
 //! ```
 //!
-//! ```sh
-//! export SETTLEMENT_LIB=/absolute/path/of/target/staticlib
-//! cargo build --release
-//! ```
+//! The build script looks for libsettlement_c.a (Linux on x86-64) in the folder that the environment's SETTLEMENT_LIB
+//! names, an absolute path; then in ../target/staticlib, where the repository's toolchain writes it; then in ../lib,
+//! where a package has it. `cargo doc` and `cargo check` go through without. The archive is linked statically: the
+//! daemon needs nothing of it where it runs.
 //!
-//! The archive is linked statically: the daemon needs nothing of it where it runs.
+//! # From a cell to an unlock
 //!
-//! # A witness
+//! 1. [`LockArgs::parse`] reads the cell's lock args: delay, hash length, state hash, and whether the settlement is
+//!    the first.
+//! 2. Whose commitment is it? [`LockArgs::is_of`] tells by the aggregated funding key: [`Commitment::Ours`] or
+//!    [`Commitment::Theirs`].
+//! 3. [`SettlementTlcs::new`] takes the TLCs that were stored with the commitment, each with who offered it.
+//! 4. Of a cell that a settlement transaction made, [`Witness::from_chain`] reads that transaction's witness.
+//! 5. [`TrackedTlcs`]: which TLCs stand in the cell, with their whole hashes.
+//! 6. [`choose`] answers [`Outcome::Wait`], or [`Outcome::Unlock`] with the unlock, the key that signs, the input's
+//!    since and the next cell's lock args.
+//! 7. The host builds the transaction and signs, and [`Chosen::signed_witness`] makes the bytes that go on chain.
+//!
+//! The example two_towers (`cargo run --example two_towers`) does all of it for both sides of a made-up channel, till
+//! nothing stands. The example of [`choose`] is the shortest.
+//!
+//! # A witness, and where it comes from
+//!
+//! A settlement transaction spends a commitment cell and shows, in the witness of that input, the state that the cell
+//! held and what it unlocks:
 //!
 //! ```text
-//! unlock count 1 | n 1 | n TLCs of 65 + h | remote share 36 | local share 36 | unlocks to the end
+//! unlock count 1 | n 1 | n TLC records of 65 + h | share in slot remote 36 | share in slot local 36 | unlocks to the end
+//!
+//! record: type 1 | amount 16 | payment hash h | remote key hash 20 | local key hash 20 | expiry 8
+//! share:  key hash 20 | amount 16
+//! unlock: byte 1 | flag 1 | signature 65 | preimage 32, if the flag is 1
 //! ```
 //!
-//! h is how many bytes of a payment hash a TLC holds: 20, or 32 on a channel with full hashes. The unlock count is not
-//! looked at. A share is a key hash (20 bytes) and an amount (16); an unlock is a byte that says what it unlocks, a
-//! flag, a signature (65), and a preimage (32) if the flag is 1. Numbers are little-endian. A state is the same from n
-//! to the local share, so that the next witness is an unlock count, the state and the unlocks.
+//! Numbers are little-endian. The unlock's byte is 0xFE, 0xFF or the place of a record. A state is the part from n to
+//! the second share, and the lock args of a cell have its hash.
 //!
-//! # Example
+//! The witness that belongs to a live cell is the one of the transaction that made the cell:
 //!
-//! ```
-//! use fiber_settlement::{read, update, UNLOCK_LOCAL};
-//!
-//! // No TLCs, the remote side owns 5, the local side 7; an unlock of the local share.
-//! let mut witness = vec![1, 0];
-//! witness.extend([0x11; 20]);
-//! witness.extend(5u128.to_le_bytes());
-//! witness.extend([0x22; 20]);
-//! witness.extend(7u128.to_le_bytes());
-//! witness.extend([UNLOCK_LOCAL, 0]);
-//! witness.extend([0; 65]);
-//!
-//! let found = read(20, &witness)?;
-//! assert_eq!((found.tlcs, found.unlock_count), (0, 1));
-//! assert_eq!((found.share_place, found.first_unlock), (2, 74));
-//!
-//! let mut state = [0; 73];
-//! let length = update(20, &witness, &mut state)?;
-//! assert_eq!(length, 73);
-//! assert_eq!(state[..37], witness[1..38]); // the remote share stands
-//! assert_eq!(state[37..], [0; 36]); // the local one is gone
-//! # Ok::<(), fiber_settlement::Refusal>(())
+//! ```text
+//! ckb-cli rpc get_transaction --hash <tx_hash of the cell's out point>
 //! ```
 //!
-//! What cannot be taken is turned down with a number and a place, and no byte of the output is changed:
+//! Of its inputs find the one that spends the commitment cell before, and take the witness at that input's index,
+//! which need not be 0. On chain 16 bytes stand in front of it, an empty `WitnessArgs` ([`CHAIN_PREFIX`], `10000000`
+//! four times). [`Witness::from_chain`] wants and cuts them, [`Chosen::signed_witness`] puts them there; all places
+//! in refusals count behind them. The commitment transaction's own cell has no such witness: its settlement is the
+//! first.
 //!
 //! ```
-//! use fiber_settlement::{read, SHARES_CUT};
+//! use fiber_settlement::{Commitment, LockArgs, Side, Witness, CHAIN_PREFIX};
 //!
-//! let refusal = read(20, &[0; 73]).unwrap_err();
-//! assert_eq!((refusal.number, refusal.place), (SHARES_CUT, 2));
-//! assert_eq!(refusal.to_string(), "the share part that starts at byte 2 of the witness is cut short");
+//! // Args of 57 bytes, so records hold 20 bytes of a hash. In the witness: one TLC that the commitment's owner offered,
+//! // the owner's share of 5, the other party's of 7, which an unlock takes.
+//! let mut args = [0; 57];
+//! args[56] = 1;
+//! let record = [&[1][..], &3u128.to_le_bytes(), &[0xaa; 60], &0x4000_0000_6553_f100u64.to_le_bytes()].concat();
+//! let shares = [&[0x11; 20][..], &5u128.to_le_bytes(), &[0x22; 20], &7u128.to_le_bytes()].concat();
+//! let on_chain = [&CHAIN_PREFIX[..], &[1, 1], &record, &shares, &[0xff, 0], &[0; 65]].concat();
+//!
+//! let args = LockArgs::parse(&args)?;
+//! let witness = Witness::from_chain(&on_chain, &args)?;
+//! let owed = witness.owed(Commitment::Ours);
+//! assert_eq!((owed.our_share, owed.their_share), (5, 0)); // the other party was paid
+//! assert_eq!((owed.tlcs[0].amount, owed.tlcs[0].expiry_ms), (3, Some(1_700_000_000_000)));
+//! assert_eq!((owed.tlcs[0].by_timeout, owed.tlcs[0].by_preimage), (Side::Us, Side::Them));
+//! assert_eq!(witness.owed(Commitment::Theirs).tlcs[0].by_timeout, Side::Them);
+//! assert!(!witness.state_matches(&args)); // these args were made up
+//! # Ok::<(), Box<dyn std::error::Error>>(())
 //! ```
+//!
+//! # The lock args, and h
+//!
+//! h is how many bytes of a payment hash a record holds. The lock args say it and nothing else does: 57 bytes, h is
+//! 20; 58 bytes with a features byte (the last) of 1, h is 32. With the wrong h all that stands behind the first
+//! payment hash is read from the wrong byte, and the lengths can still fit: 65 tracked TLCs of 118 bytes are as long
+//! as 59 of 130. So [`HashLength`] comes out of [`LockArgs`], which has the whole table of the args' bytes.
+//!
+//! # Whose is it?
+//!
+//! The slots `remote` and `local` of a witness are places, not sides, and "offered" and "received" are in one party's
+//! view. By themselves they tell of the [`Party`] that owns the commitment and of the other one; [`Commitment::side`]
+//! makes "us" and "them" of that, [`Commitment::party`] goes the other way, and nothing is turned anywhere else:
+//!
+//! | In a witness | [`Commitment::Ours`] (`for_remote` 0) | [`Commitment::Theirs`] (`for_remote` 1) |
+//! |---|---|---|
+//! | first share, slot `remote`, unlock 0xFE: [`Party::Owner`] | ours | theirs |
+//! | second share, slot `local`, unlock 0xFF: [`Party::Other`] | theirs | ours |
+//! | `remote` key hash of a record: [`Party::Owner`] | of our key | of their key |
+//! | `local` key hash of a record: [`Party::Other`] | of their key | of our key |
+//! | type bit 0 set, "received": the owner offered it | we offered: ours by timeout | they offered: ours by preimage |
+//! | type bit 0 clear, "offered": the other offered it | they offered: ours by preimage | we offered: ours by timeout |
+//!
+//! So the settlement TLC list that the library reads is in the view of the party that does *not* own the commitment:
+//! ours where the commitment is theirs, and theirs where it is ours. A host keeps its TLCs in its own view and says
+//! [`SettlementTlc::offered_by`]; the entry's byte is made from that. In every case what we offered comes back to us
+//! by timeout, and what they offered we take by preimage.
+//!
+//! A list in the wrong view is a list like any other, and by it a tower pays the other side without an error. The
+//! lock args can tell: [`choose`] makes the state and goes on only if the args have its hash
+//! ([`Refusal::StateDiffers`]).
+//!
+//! # Which time, which epochs
+//!
+//! [`Request::time`] is the median block time of the tip in milliseconds (the RPC `get_block_median_time` with the
+//! tip's hash), not the wall clock: the chain judges an expiry by the former. [`Request::cell_epoch`] is the epoch of
+//! the header of the block that holds the cell, [`Request::tip_epoch`] that of the tip's header;
+//! [`Epoch::from_header_epoch`] takes the field as it is. The delay comes from the lock args. A first settlement
+//! takes TLCs by preimage after a third of the delay, by timeout after two thirds, and our share after the whole, once
+//! no TLC is left that could be ours; later ones have no delay.
+//!
+//! # The last settlement
+//!
+//! Where the other party's share was paid out before, our share is chosen whatever TLCs still stand, and
+//! [`Chosen::is_last`] says so. The reference then makes no successor cell and pays out the cell's whole capacity, of
+//! a UDT cell all its tokens too. A host that pays [`Chosen::amount`] alone there leaves the rest behind.
+//!
+//! # What to do on each number
+//!
+//! Every [`Refusal`] and every [`Cause`] of a wait prints as a sentence that says what to do.
+//!
+//! | Number | Case | What to do |
+//! |---|---|---|
+//! | 1 to 6 | [`Refusal::WitnessShort`], [`TlcCut`](Refusal::TlcCut), [`SharesCut`](Refusal::SharesCut), [`UnlockCut`](Refusal::UnlockCut), [`UnlockUnknown`](Refusal::UnlockUnknown), [`SettledTwice`](Refusal::SettledTwice) | These bytes are no witness of this channel: is it the right input's, and are the args the cell's? The same bytes get the same answer again. |
+//! | 7 | [`Refusal::LengthZero`] | An epoch that was handed in, or the delay in the args, has length 0: do the epochs come from headers? |
+//! | 8 | [`Refusal::ScaledAbove`] | A fraction of an epoch passes its bounds. No choice says so. |
+//! | 10, 11 | [`Refusal::ArgsShort`], [`NoDelay`](Refusal::NoDelay) | Not the args of a commitment cell: leave the cell. |
+//! | 12 | [`Refusal::TooManyTlcs`] | More than 254 TLCs, and no unlock byte names the last: tell an operator. A later settlement goes on as soon as an unlock has settled one. |
+//! | 13 | [`Refusal::OutputShort`] | Lend as many bytes as it says ([`Request::output_length`] does) and ask again. |
+//! | 14 | [`Refusal::NotWell`] | The call is wrong. The types of this crate make no such call. |
+//! | 20 | [`Cause::ListDiffers`] | Wait. The tracked list is not what stands in the cell: scan the chain again. |
+//! | 21 | [`Cause::NotOurShare`] | Wait. Our share was paid out, and nothing is left for us; or the key is not this channel's. |
+//! | 22 | [`Cause::NothingQualifies`] | Wait. Ask again at the next tip. |
+//! | none | the other cases of [`Refusal`] | This crate turned it down before the library was asked: parts that do not belong to one cell. |
+//!
+//! # What stays a host's duty
+//!
+//! - Which cells to look at: those that follow from the commitment transaction by their out points. Anybody can make
+//!   a cell whose args look right. [`Witness::spends`] and [`Witness::state_matches`] hold a witness against the cell
+//!   before and the cell made.
+//! - The settlement TLCs in the commitment's order, all of them in later settlements too. Which stored list it is,
+//!   where there are several of one commitment number, the state hash tells ([`first_state`], [`State::matches`]).
+//! - Time and epochs from one node at one tip.
+//! - Preimages whose hash was looked at ([`Preimage::of`]), and those that other unlocks show ([`Unlock::preimage`]).
+//! - The transaction: the next cell with [`Chosen::new_args`] is its first output, unless it is the last settlement;
+//!   the commitment input has [`Chosen::input_since`], the others [`Chosen::other_inputs_since`]; the key that
+//!   [`Chosen::key`] names signs.
+//! - A commitment that was revoked is not settled but answered with the revocation, which is not in this crate.
 
 #![warn(missing_docs)]
 
-use std::error::Error;
-use std::fmt;
-
-// ---- Numbers of refusals ----
-
-/// 1: the witness is below 2 bytes. The place is its length.
-pub const WITNESS_SHORT: u64 = 1;
-/// 2: a TLC is cut short. The place is its first byte.
-pub const TLC_CUT: u64 = 2;
-/// 3: the share part is cut short. The place is its first byte.
-pub const SHARES_CUT: u64 = 3;
-/// 4: an unlock is below 67 bytes, or below 99 with flag 1. The place is its first byte.
-pub const UNLOCK_CUT: u64 = 4;
-/// 5: an unlock byte is neither 0xFE, 0xFF nor below n. The place is the unlock's first byte.
-pub const UNLOCK_UNKNOWN: u64 = 5;
-/// 6: a place is settled twice. The place is the later unlock's first byte.
-pub const SETTLED_TWICE: u64 = 6;
-/// 7: a denominator, or the length of an epoch, is 0.
-pub const LENGTH_ZERO: u64 = 7;
-/// 8: numerator or denominator of a scaled delay pass 64 bits, or its whole part 16,777,215.
-pub const SCALED_ABOVE: u64 = 8;
-/// 10: the lock args are below 36 bytes.
-pub const ARGS_SHORT: u64 = 10;
-/// 11: bytes 20 to 27 of the lock args are no relative epoch since value.
-pub const NO_DELAY: u64 = 11;
-/// 12: there are more than 254 TLCs at the choice, where an unlock byte has to name one, or more than 255 in a first
-/// state, whose count is a byte.
-pub const TOO_MANY_TLCS: u64 = 12;
-/// 13: the output is too short. The place is the number of bytes needed.
-pub const OUTPUT_SHORT: u64 = 13;
-/// 14: an argument has a length or a value that its layout does not have; of [`read`] and [`update`] that is an h other
-/// than 20 and 32.
-pub const NOT_WELL: u64 = 14;
-/// 20: wait, the tracked list differs from the TLCs.
-pub const LIST_DIFFERS: u64 = 20;
-/// 21: wait, our share is not there.
-pub const NOT_OUR_SHARE: u64 = 21;
-/// 22: wait, nothing qualifies.
-pub const NOTHING_QUALIFIES: u64 = 22;
-
-// ---- Layout ----
-
-/// The unlock byte of the remote share.
-pub const UNLOCK_REMOTE: u8 = 0xfe;
-/// The unlock byte of the local share.
-pub const UNLOCK_LOCAL: u8 = 0xff;
-/// The place of n, the TLC count, in a witness; in a state it is the first byte.
-pub const WITNESS_COUNT: usize = 1;
-/// The place of the first TLC in a witness.
-pub const WITNESS_TLCS: usize = 2;
-/// Where the amount starts in a TLC, behind its type.
-pub const TLC_AMOUNT: usize = 1;
-/// Where the payment hash starts in a TLC. It has h bytes; behind it come remote key hash, local key hash and expiry.
-pub const TLC_HASH: usize = 17;
-/// The bytes of a TLC beside its payment hash.
-pub const TLC_FIXED: usize = 65;
-/// The bytes of a share: a key hash and an amount.
-pub const SHARE: usize = 36;
-/// Where the amount starts in a share.
-pub const SHARE_AMOUNT: usize = 20;
-/// The bytes of an unlock without preimage.
-pub const UNLOCK: usize = 67;
-/// The bytes of an unlock with preimage.
-pub const UNLOCK_WITH_PREIMAGE: usize = 99;
-/// Where the signature lies in an unlock, behind its byte and its flag.
-pub const UNLOCK_SIGNATURE: std::ops::Range<usize> = 2..67;
-
-/// The length of a state of `tlcs` TLCs on a channel whose hashes have `h` bytes.
-///
-/// The longest state has 255 TLCs of 97 bytes:
-///
-/// ```
-/// assert_eq!(fiber_settlement::state_length(32, 255), 24_808);
-/// ```
-pub const fn state_length(h: usize, tlcs: usize) -> usize {
-    1 + tlcs * (TLC_FIXED + h) + 2 * SHARE
-}
-
-// ---- Answers ----
-
-/// What a witness holds.
-#[derive(Clone, Copy, Debug, PartialEq, Eq, Hash)]
-pub struct Read {
-    /// n, the number of TLCs.
-    pub tlcs: usize,
-    /// The number of unlocks.
-    pub unlock_count: usize,
-    /// The place of the share part: remote share, then local share.
-    pub share_place: usize,
-    /// The place of the first unlock, or the witness's length where there is none.
-    pub first_unlock: usize,
-}
-
-/// Why something was turned down, or waits: a number of document 01's table, and the place that goes with it.
-///
-/// `Display` says it in one sentence:
-///
-/// ```
-/// use fiber_settlement::{Refusal, OUTPUT_SHORT};
-///
-/// let refusal = Refusal { number: OUTPUT_SHORT, place: 73 };
-/// assert_eq!(refusal.to_string(), "the output is too short, 73 bytes are needed");
-/// assert!(!refusal.is_wait());
-/// ```
-#[derive(Clone, Copy, Debug, PartialEq, Eq, Hash)]
-pub struct Refusal {
-    /// The number, one of this crate's constants.
-    pub number: u64,
-    /// A place in the witness; for [`WITNESS_SHORT`] its length, for [`OUTPUT_SHORT`] the bytes needed, else 0.
-    pub place: u64,
-}
-
-impl Refusal {
-    /// Is it a wait (20, 21 or 22)? Then nothing is wrong, and the same may be asked again later.
-    pub const fn is_wait(&self) -> bool {
-        matches!(self.number, LIST_DIFFERS | NOT_OUR_SHARE | NOTHING_QUALIFIES)
-    }
-}
-
-impl fmt::Display for Refusal {
-    fn fmt(&self, f: &mut fmt::Formatter<'_>) -> fmt::Result {
-        let place = self.place;
-        match self.number {
-            WITNESS_SHORT => write!(f, "the witness has {place} of the 2 bytes that it needs at least"),
-            TLC_CUT => write!(f, "the TLC that starts at byte {place} of the witness is cut short"),
-            SHARES_CUT => write!(f, "the share part that starts at byte {place} of the witness is cut short"),
-            UNLOCK_CUT => write!(f, "the unlock that starts at byte {place} of the witness is below 67 bytes, or 99 with flag 1"),
-            UNLOCK_UNKNOWN => {
-                write!(f, "the unlock at byte {place} of the witness names neither a share nor a TLC of the list")
-            }
-            SETTLED_TWICE => {
-                write!(f, "the unlock at byte {place} of the witness settles a TLC that an earlier one settled")
-            }
-            LENGTH_ZERO => f.write_str("a denominator or the length of an epoch is 0"),
-            SCALED_ABOVE => f.write_str("the scaling of a delay passes 64 bits, or its whole part passes 16,777,215"),
-            ARGS_SHORT => f.write_str("the lock args are below 36 bytes"),
-            NO_DELAY => f.write_str("bytes 20 to 27 of the lock args are no relative epoch since value"),
-            TOO_MANY_TLCS => {
-                f.write_str("there are more than 254 TLCs at the choice, or more than 255 in a first state")
-            }
-            OUTPUT_SHORT => write!(f, "the output is too short, {place} bytes are needed"),
-            NOT_WELL => f.write_str(
-                "an argument is not well formed: h is not 20 or 32, a list is not made of whole entries, received or \
-                 algorithm is above 1, a key does not have 33 bytes, or an epoch field is beyond its bits",
-            ),
-            LIST_DIFFERS => f.write_str("wait: the tracked list differs from the TLCs"),
-            NOT_OUR_SHARE => f.write_str("wait: our share is not there"),
-            NOTHING_QUALIFIES => f.write_str("wait: nothing qualifies yet"),
-            number => write!(f, "number {number} at {place}, which is none of the table"),
-        }
-    }
-}
-
-impl Error for Refusal {}
-
-// ---- Operations ----
-
-/// The library's own functions. include/fiber_settlement.h has the same, with every offset of the answers.
-mod c {
-    pub const READ_ANSWER: usize = 48;
-    pub const UPDATE_ANSWER: usize = 24;
-    pub const PLACE: usize = 8;
-    pub const READ_TLCS: usize = 16;
-    pub const READ_UNLOCK_COUNT: usize = 24;
-    pub const READ_SHARE_PLACE: usize = 32;
-    pub const READ_FIRST_UNLOCK: usize = 40;
-    pub const UPDATE_LENGTH: usize = 16;
-
-    extern "C" {
-        pub fn fiber_settlement_read(
-            h: u64,
-            witness: *const u8,
-            witness_len: usize,
-            answer: *mut u8,
-            answer_len: usize,
-        ) -> u64;
-        pub fn fiber_settlement_update(
-            h: u64,
-            witness: *const u8,
-            witness_len: usize,
-            out: *mut u8,
-            out_len: usize,
-            answer: *mut u8,
-            answer_len: usize,
-        ) -> u64;
-    }
-}
-
-#[cfg(feature = "choose")]
+mod args;
+mod c;
 mod choose;
-#[cfg(feature = "choose")]
-pub use choose::*;
+mod epoch;
+mod hash;
+pub mod layout;
+mod preimage;
+mod record;
+mod refusal;
+mod side;
+mod state;
+mod tlc;
+mod witness;
 
-/// The number of 8 bytes at a place of an answer.
-fn field(answer: &[u8], at: usize) -> u64 {
-    u64::from_le_bytes(answer[at..at + 8].try_into().expect("8 bytes"))
-}
-
-fn done(number: u64, answer: &[u8]) -> Result<(), Refusal> {
-    match number {
-        0 => Ok(()),
-        number => Err(Refusal { number, place: field(answer, c::PLACE) }),
-    }
-}
-
-/// Reads a witness of a channel whose hashes have `h` bytes, 20 or 32.
-///
-/// It looks at the layout alone: an unlock that names no TLC, or one a second time, is turned down by [`update`].
-///
-/// # Errors
-///
-/// In this order: [`NOT_WELL`]; [`WITNESS_SHORT`], [`TLC_CUT`], [`SHARES_CUT`], [`UNLOCK_CUT`], front to back.
-///
-/// ```
-/// use fiber_settlement::{read, Read};
-///
-/// let found = read(32, &[0; 74])?;
-/// assert_eq!(found, Read { tlcs: 0, unlock_count: 0, share_place: 2, first_unlock: 74 });
-/// # Ok::<(), fiber_settlement::Refusal>(())
-/// ```
-pub fn read(h: u64, witness: &[u8]) -> Result<Read, Refusal> {
-    let mut answer = [0; c::READ_ANSWER];
-    // SAFETY: both pointers come from slices of the lengths said, and only the answer is written.
-    let number = unsafe {
-        c::fiber_settlement_read(h, witness.as_ptr(), witness.len(), answer.as_mut_ptr(), answer.len())
-    };
-    done(number, &answer)?;
-    Ok(Read {
-        tlcs: field(&answer, c::READ_TLCS) as usize,
-        unlock_count: field(&answer, c::READ_UNLOCK_COUNT) as usize,
-        share_place: field(&answer, c::READ_SHARE_PLACE) as usize,
-        first_unlock: field(&answer, c::READ_FIRST_UNLOCK) as usize,
-    })
-}
-
-/// Takes the unlocks of a witness in order, writes the state left to the front of `out`, and answers its length.
-///
-/// Unlock byte 0xFF sets the local share to zeros, 0xFE the remote one, as often as they come; another byte settles
-/// the TLC at that place of the witness's list, as it was before any removal. TLCs left keep their order. Behind the
-/// state `out` is not changed; a refusal changes no byte of it.
-///
-/// # Errors
-///
-/// In this order: [`NOT_WELL`]; [`WITNESS_SHORT`], [`TLC_CUT`], [`SHARES_CUT`], [`UNLOCK_CUT`], front to back;
-/// [`UNLOCK_UNKNOWN`] and [`SETTLED_TWICE`], the first faulty unlock first; [`OUTPUT_SHORT`].
-///
-/// ```
-/// use fiber_settlement::{state_length, update, OUTPUT_SHORT};
-///
-/// // One TLC, and an unlock that settles it.
-/// let mut witness = vec![0, 1];
-/// witness.extend([7; 85]);
-/// witness.extend([9; 72]);
-/// witness.extend([0; 67]);
-///
-/// let mut out = [0xaa; 100];
-/// let length = update(20, &witness, &mut out)?;
-/// assert_eq!(length, state_length(20, 0));
-/// assert_eq!(out[0], 0);
-/// assert_eq!(out[1..73], [9; 72]);
-/// assert_eq!(out[73..], [0xaa; 27]);
-///
-/// let refusal = update(20, &witness, &mut out[..72]).unwrap_err();
-/// assert_eq!((refusal.number, refusal.place), (OUTPUT_SHORT, 73));
-/// # Ok::<(), fiber_settlement::Refusal>(())
-/// ```
-pub fn update(h: u64, witness: &[u8], out: &mut [u8]) -> Result<usize, Refusal> {
-    let mut answer = [0; c::UPDATE_ANSWER];
-    // SAFETY: all pointers come from slices of the lengths said; Rust's borrows keep the three apart.
-    let number = unsafe {
-        c::fiber_settlement_update(
-            h,
-            witness.as_ptr(),
-            witness.len(),
-            out.as_mut_ptr(),
-            out.len(),
-            answer.as_mut_ptr(),
-            answer.len(),
-        )
-    };
-    done(number, &answer)?;
-    Ok(field(&answer, c::UPDATE_LENGTH) as usize)
-}
-
-/// As [`update`], into a vector of the state's own length.
-///
-/// # Errors
-///
-/// As [`update`], but for [`OUTPUT_SHORT`]: there is room.
-///
-/// ```
-/// let state = fiber_settlement::updated(20, &[0; 74])?;
-/// assert_eq!(state, [0; 73]);
-/// # Ok::<(), fiber_settlement::Refusal>(())
-/// ```
-pub fn updated(h: u64, witness: &[u8]) -> Result<Vec<u8>, Refusal> {
-    // No state is longer than the witness, whose front it is; one byte less, as it has no unlock count.
-    let mut state = vec![0; witness.len().saturating_sub(1)];
-    let length = update(h, witness, &mut state)?;
-    state.truncate(length);
-    Ok(state)
-}
+pub use args::{ArgsError, HashLength, LockArgs};
+pub use choose::{choose, Chosen, Key, Outcome, Request, Unlocked, Way};
+pub use epoch::{expiry, is_due, Epoch, EpochError, MedianTime};
+pub use hash::{ckb_hash, key_hash, sha256, Algorithm, Hash, KeyHash, PublicKey};
+pub use preimage::Preimage;
+pub use record::{Share, Shares, Tlc, Tlcs};
+pub use refusal::{Cause, Refusal};
+pub use side::{Commitment, Party, Side};
+pub use state::{first_state, Balances, Owed, OwedTlc, State};
+pub use tlc::{tlc_record, SettlementTlc, SettlementTlcs, TrackedTlcs};
+pub use witness::{read, update, updated, Read, Unlock, Unlocks, Witness, CHAIN_PREFIX};
 
 #[cfg(test)]
 mod tests;

@@ -225,8 +225,8 @@ fn choices() {
                     unsafe {
                         CHOOSE(
                             a.h,
-                            a.for_remote,
-                            is_later,
+                            u8::from(a.for_remote),
+                            u8::from(is_later),
                             a.time,
                             header.number,
                             header.index,

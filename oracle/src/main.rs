@@ -237,8 +237,9 @@ const DUMP_HEADER: &str = "\
 #   pick    the choice: h for_remote is_later time, header and current (each number index length), local amount and
 #           remote amount (each low half, high half), args, settlement TLCs, local key, remote key, tracked list, pairs,
 #           witness = kind byte, amount (low half, high half), key kind, key place, delay kind, delay (number index
-#           length), record (place length), lengths of unlock, state and new args, place of the pair : unlock, state and
-#           new args. Record and place of the pair are document 01's, as the Rust does not tell them.
+#           length), record (place length), lengths of unlock, state and new args, place of the pair, 1 if it is the last
+#           settlement, else 0 : unlock, state and new args. Record and place of the pair are document 01's, as the Rust
+#           does not tell them.
 #
 # Left out are other inputs outside the equality of document 01: what cannot be handed to the Rust (fields beyond their
 # bits, keys of other lengths), whole parts above 16777215, a length of 0 in the due test.

@@ -18,22 +18,22 @@ macro_rules! export {
     };
 }
 
-export!(MUL, Mul, fn fiber_test_mul(u64, u64, u64, u64, u64, *mut u8, usize) -> u64);
-export!(IS_DUE, IsDue, fn fiber_test_is_due(u64, u64, u64, u64, u64, u64, u64, u64, u64, *mut u8, usize) -> u64);
-export!(ABSOLUTE_EXPIRY, AbsoluteExpiry, fn fiber_test_absolute_expiry(u64, *mut u8, usize) -> u64);
-export!(KEY_HASH, KeyHash, fn fiber_test_key_hash(*const u8, usize, *mut u8, usize) -> u64);
-export!(CKB_HASH, CkbHash, fn fiber_test_ckb_hash(*const u8, usize, *mut u8));
-export!(SHA256, Sha256, fn fiber_test_sha256(*const u8, usize, *mut u8));
+export!(SCALE, Scale, fn fiber_settlement_scale(u64, u64, u64, u64, u64, *mut u8, usize) -> u64);
+export!(IS_DUE, IsDue, fn fiber_settlement_is_due(u64, u64, u64, u64, u64, u64, u64, u64, u64, *mut u8, usize) -> u64);
+export!(EXPIRY, Expiry, fn fiber_settlement_expiry(u64, *mut u8, usize) -> u64);
+export!(KEY_HASH, KeyHash, fn fiber_settlement_key_hash(*const u8, usize, *mut u8, usize) -> u64);
+export!(CKB_HASH, CkbHash, fn fiber_settlement_ckb_hash(*const u8, usize, *mut u8));
+export!(SHA256, Sha256, fn fiber_settlement_sha256(*const u8, usize, *mut u8));
 export!(READ, SettlementRead, fn fiber_settlement_read(u64, *const u8, usize, *mut u8, usize) -> u64);
 export!(UPDATE, SettlementUpdate,
     fn fiber_settlement_update(u64, *const u8, usize, *mut u8, usize, *mut u8, usize) -> u64);
-export!(TLC_WITNESS, TlcWitness,
-    fn fiber_test_tlc_witness(u64, bool, *const u8, usize, *mut u8, usize, *mut u8, usize) -> u64);
-export!(DATA_WITNESS, DataWitness,
-    fn fiber_test_data_witness(u64, bool, u64, u64, u64, u64, *const u8, usize, *const u8, usize, *const u8, usize,
+export!(TLC_RECORD, TlcRecord,
+    fn fiber_settlement_tlc_record(u64, u8, *const u8, usize, *mut u8, usize, *mut u8, usize) -> u64);
+export!(FIRST_STATE, FirstState,
+    fn fiber_settlement_first_state(u64, u8, u64, u64, u64, u64, *const u8, usize, *const u8, usize, *const u8, usize,
         *mut u8, usize, *mut u8, usize) -> u64);
 export!(CHOOSE, SettlementChoose,
-    fn fiber_settlement_choose(u64, bool, bool, u64, u64, u64, u64, u64, u64, u64, u64, u64, u64, u64,
+    fn fiber_settlement_choose(u64, u8, u8, u64, u64, u64, u64, u64, u64, u64, u64, u64, u64, u64,
         *const u8, usize, *const u8, usize, *const u8, usize, *const u8, usize, *const u8, usize, *const u8, usize,
         *const u8, usize, *mut u8, usize, *mut u8, usize) -> u64);
 
@@ -168,7 +168,7 @@ pub fn mul(random: &mut Random, delay: Epoch, numerator: u64, denominator: u64) 
         random,
         40,
         // SAFETY: the buffer has the length passed.
-        |answer, size| unsafe { MUL(number, index, length, numerator, denominator, answer, size) },
+        |answer, size| unsafe { SCALE(number, index, length, numerator, denominator, answer, size) },
         |bytes| Ok(Epoch { number: u64_at(bytes, 16), index: u64_at(bytes, 24), length: u64_at(bytes, 32) }),
     )
 }
@@ -193,7 +193,7 @@ pub fn absolute_expiry(random: &mut Random, since: u64) -> Called<Option<u64>> {
         random,
         32,
         // SAFETY: the buffer has the length passed.
-        |answer, size| unsafe { ABSOLUTE_EXPIRY(since, answer, size) },
+        |answer, size| unsafe { EXPIRY(since, answer, size) },
         |bytes| match (truth(u64_at(bytes, 16))?, u64_at(bytes, 24)) {
             (true, expiry) => Ok(Some(expiry)),
             (false, 0) => Ok(None),
@@ -215,7 +215,7 @@ pub fn key_hash(random: &mut Random, key: &[u8]) -> Called<[u8; 20]> {
     called
 }
 
-/// `fiber_test_ckb_hash` or `fiber_test_sha256`.
+/// `fiber_settlement_ckb_hash` or `fiber_settlement_sha256`.
 pub fn hash(random: &mut Random, call: CkbHash, message: &[u8]) -> Called<[u8; 32]> {
     let text = Buffer::holding(random, message);
     let mut digest = Buffer::new(random, 32);
@@ -228,7 +228,7 @@ pub fn hash(random: &mut Random, call: CkbHash, message: &[u8]) -> Called<[u8; 3
 
 pub const READ_ANSWER: usize = 48;
 pub const UPDATE_ANSWER: usize = 24;
-pub const CHOOSE_ANSWER: usize = 144;
+pub const CHOOSE_ANSWER: usize = 152;
 
 pub fn read(random: &mut Random, h: u64, witness: &[u8]) -> Called<Read> {
     let text = Buffer::holding(random, witness);
@@ -283,9 +283,9 @@ pub fn tlc_witness(
     tlc: &[u8],
     output: usize,
 ) -> Called<Vec<u8>> {
-    written_at_times_short(random, [tlc], output, |[tlc], out, out_len, answer, answer_len| {
+    written_for(random, for_remote, [tlc], output, |flag, [tlc], out, out_len, answer, answer_len| {
         // SAFETY: TLC, output and buffer have the lengths passed.
-        unsafe { TLC_WITNESS(h, for_remote, tlc.0, tlc.1, out, out_len, answer, answer_len) }
+        unsafe { TLC_RECORD(h, flag, tlc.0, tlc.1, out, out_len, answer, answer_len) }
     })
 }
 
@@ -304,32 +304,64 @@ pub fn data_witness(
 ) -> Called<Vec<u8>> {
     let (local, remote) = (halves(data.local_amount), halves(data.remote_amount));
     let lists = [&data.tlcs[..], &data.local_key, &data.remote_key];
-    written_at_times_short(random, lists, output, |[tlcs, ours, theirs], out, out_len, answer, answer_len| {
-        // SAFETY: list, keys, output and buffer have the lengths passed.
-        unsafe {
-            DATA_WITNESS(
-                h, for_remote, local.0, local.1, remote.0, remote.1, tlcs.0, tlcs.1, ours.0, ours.1,
-                theirs.0, theirs.1, out, out_len, answer, answer_len,
-            )
-        }
-    })
+    written_for(
+        random,
+        for_remote,
+        lists,
+        output,
+        |flag, [tlcs, ours, theirs], out, out_len, answer, answer_len| {
+            // SAFETY: list, keys, output and buffer have the lengths passed.
+            unsafe {
+                FIRST_STATE(
+                    h, flag, local.0, local.1, remote.0, remote.1, tlcs.0, tlcs.1, ours.0, ours.1, theirs.0,
+                    theirs.1, out, out_len, answer, answer_len,
+                )
+            }
+        },
+    )
 }
 
 /// Bytes lent to be read: where they are, and how many.
 pub type Given = (*const u8, usize);
 
-/// `written` with an answer buffer that is long enough, and at times with shorter ones before.
-fn written_at_times_short<const N: usize>(
+/// A byte that is no flag.
+fn no_flag(random: &mut Random) -> u8 {
+    2 + random.below(254) as u8
+}
+
+/// What a call with a byte that is no flag has to answer, whatever else it was handed.
+fn has_to_be_no_flag<V>(reply: Option<Reply<V>>, flags: &[u8]) -> Result<(), String> {
+    match reply {
+        None | Some(Reply::Refused { number: 14, place: 0 }) => Ok(()),
+        Some(Reply::Refused { number, place }) => {
+            Err(format!("{flags:?} for flags was answered {number} at {place} and not 14 at 0"))
+        }
+        Some(Reply::Value(_)) => Err(format!("{flags:?} was taken for flags")),
+    }
+}
+
+/// `written` with an answer buffer that is long enough, and before it at times with shorter ones, and with a byte that
+/// is no flag.
+fn written_for<const N: usize>(
     random: &mut Random,
+    for_remote: bool,
     lists: [&[u8]; N],
     output: usize,
-    call: impl Fn([Given; N], *mut u8, usize, *mut u8, usize) -> u64,
+    call: impl Fn(u8, [Given; N], *mut u8, usize, *mut u8, usize) -> u64,
 ) -> Called<Vec<u8>> {
+    let with = |flag: u8| {
+        let call = &call;
+        move |lists, out, out_len, answer, answer_len| call(flag, lists, out, out_len, answer, answer_len)
+    };
     for length in shorter(random, UPDATE_ANSWER) {
-        written(random, lists, output, length, &call)?;
+        written(random, lists, output, length, with(u8::from(for_remote)))?;
+    }
+    if random.one_in(8) {
+        let (flag, length) = (no_flag(random), random.below(48) as usize);
+        has_to_be_no_flag(written(random, lists, output, length, with(flag))?, &[flag])?;
     }
     let length = enough(random, UPDATE_ANSWER);
-    let reply = written(random, lists, output, length, &call)?;
+    let reply = written(random, lists, output, length, with(u8::from(for_remote)))?;
     Ok(reply.expect("the buffer is long enough"))
 }
 
@@ -396,11 +428,17 @@ fn called<const N: usize>(
 
 /// The choice.
 pub fn choose(random: &mut Random, call: SettlementChoose, request: &Request) -> Called<Chosen> {
+    let flags = [u8::from(request.for_remote), u8::from(request.witness.is_some())];
     for length in shorter(random, CHOOSE_ANSWER) {
-        one_choice(random, call, request, length)?;
+        one_choice(random, call, flags, request, length)?;
+    }
+    if random.one_in(8) {
+        let (mut flags, length) = (flags, random.below(304) as usize);
+        flags[random.below(2) as usize] = no_flag(random);
+        has_to_be_no_flag(one_choice(random, call, flags, request, length)?, &flags)?;
     }
     let length = enough(random, CHOOSE_ANSWER);
-    let reply = one_choice(random, call, request, length)?;
+    let reply = one_choice(random, call, flags, request, length)?;
     Ok(reply.expect("the buffer is long enough"))
 }
 
@@ -408,10 +446,11 @@ pub fn choose(random: &mut Random, call: SettlementChoose, request: &Request) ->
 fn one_choice(
     random: &mut Random,
     call: SettlementChoose,
+    flags: [u8; 2],
     request: &Request,
     answer: usize,
 ) -> Result<Option<Reply<Chosen>>, String> {
-    let Request { h, for_remote, time, header, current, data, .. } = request;
+    let Request { h, time, header, current, data, .. } = request;
     let (local, remote) = (halves(data.local_amount), halves(data.remote_amount));
     // In a first settlement a witness is not looked at, whatever is lent.
     let mut any = vec![0; random.pick(&[0, 0, 1, 2, 74, 200])];
@@ -439,8 +478,8 @@ fn one_choice(
             unsafe {
                 call(
                     *h,
-                    *for_remote,
-                    is_later,
+                    flags[0],
+                    flags[1],
                     *time,
                     header.number,
                     header.index,
@@ -484,7 +523,7 @@ fn one_choice(
     }
 }
 
-/// The choice's answer of 144 bytes and its output, whose fields have to fit each other. `slice` is what the record is
+/// The choice's answer of 152 bytes and its output, whose fields have to fit each other. `slice` is what the record is
 /// a part of.
 fn chosen(request: &Request, slice: &[u8], answer: &[u8], out: &Buffer) -> Result<Chosen, String> {
     let field = |at| u64_at(answer, at);
@@ -540,6 +579,7 @@ fn chosen(request: &Request, slice: &[u8], answer: &[u8], out: &Buffer) -> Resul
         delay: (field(64) == 1).then_some(delay),
         record: (record.0 as usize, record.1 as usize),
         pair: field(136) as usize,
+        last: truth(field(144))?,
     })
 }
 

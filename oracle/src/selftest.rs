@@ -241,8 +241,8 @@ thread_local!(static FAULT: Cell<&'static str> = const { Cell::new("none") });
 #[allow(clippy::too_many_arguments)]
 unsafe extern "C" fn choice_over_c(
     h: u64,
-    for_remote: bool,
-    is_later: bool,
+    for_remote: u8,
+    is_later: u8,
     time: u64,
     header_number: u64,
     header_index: u64,
@@ -277,11 +277,16 @@ unsafe extern "C" fn choice_over_c(
     if answer_len < port::CHOOSE_ANSWER && fault != "a short answer buffer is not looked at" {
         return 14;
     }
+    if (for_remote > 1 || is_later > 1) && fault != "any byte is a flag" {
+        let row: Vec<u8> = [14u64, 0].iter().flat_map(|field| field.to_le_bytes()).collect();
+        answer.copy_from(row.as_ptr(), row.len());
+        return 14;
+    }
     let bytes = |from: *const u8, length: usize| from_raw_parts(from, length).to_vec();
     let amount = |low: u64, high: u64| u128::from(high) << 64 | u128::from(low);
     let chosen = settlement::choice(&Request {
         h,
-        for_remote,
+        for_remote: for_remote == 1,
         args: bytes(args, args_len),
         time,
         header: epoch(header_number, header_index, header_length),
@@ -295,7 +300,7 @@ unsafe extern "C" fn choice_over_c(
         },
         tracked: bytes(tracked, tracked_len),
         preimages: bytes(preimages, preimages_len),
-        witness: is_later.then(|| bytes(witness, witness_len)),
+        witness: (is_later == 1).then(|| bytes(witness, witness_len)),
         output: out_len,
     });
     let (number, fields, mut written) = match chosen {
@@ -310,7 +315,8 @@ unsafe extern "C" fn choice_over_c(
             let record = [c.record.0 as u64, c.record.1 as u64];
             let lengths = [&c.unlock, &c.state, &c.new_args].map(|part| part.len() as u64);
             let front = [0, 0, u64::from(kind), u64::from(byte), low, high];
-            let fields = [&front[..], &key, &delay, &record, &lengths, &[c.pair as u64]].concat();
+            let fields =
+                [&front[..], &key, &delay, &record, &lengths, &[c.pair as u64, u64::from(c.last)]].concat();
             (0, fields, [c.unlock, c.state, c.new_args].concat())
         }
     };
@@ -330,6 +336,7 @@ unsafe extern "C" fn choice_over_c(
             fields[16] += 1;
         }
         "another pair" if success => fields[17] += 1,
+        "another last" if success => fields[18] ^= 1,
         "a byte of the unlock" if success => written[66] = 1,
         "a byte behind the output" if success && written.len() < out_len => *out.add(written.len()) ^= 1,
         "a byte before the output" => *out.sub(1) ^= 1,
@@ -359,6 +366,8 @@ fn calls_of_choice() {
         "a record that is a byte short",
         "a state a byte short",
         "another pair",
+        "another last",
+        "any byte is a flag",
         "a byte of the unlock",
         "a byte behind the output",
         "a byte before the output",

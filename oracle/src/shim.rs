@@ -308,6 +308,7 @@ pub struct TransactionView {
     pub state: Vec<u8>,
     pub new_args: Vec<u8>,
     pub is_first_settlement: bool,
+    pub last: bool,
     pub delay: EpochNumberWithFraction,
 }
 

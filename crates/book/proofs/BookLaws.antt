@@ -32,7 +32,7 @@ use Rattle.fiber_witness.proofs.LeftLaws.{take-sets}
 use Rattle.fiber_witness.proofs.StateLaws.{sound-left, sound-length, read-sound, state-left}
 use Rattle.fiber_choice.specs.declared.kinds.Side.{Side}
 use Rattle.fiber_choice.specs.declared.kinds.Side.the-variants.{Remote, Local}
-use Rattle.types_c.proofs.AnswersLaws.{pair-length}
+use Rattle.c_answer.proofs.AnswersLaws.{pair-length}
 use Rattle.settlement_c.specs.Settlement.{OutCall, writtenCall}
 use Rattle.settlement_c.proofs.SettlementLaws.{called, update-written, written-short, written-refused, written-bytes}
 use Rattle.book.specs.Trace.{Transition}

@@ -12,7 +12,7 @@ use Rattle.fiber_choice.specs.declared.kinds.Side.the-variants.{Remote, Local}
 use Rattle.fiber_witness.specs.Unlocks.{unlockSize, unlocksWithin, unlocksIn}
 use Rattle.fiber_witness.specs.Witness.{chunks, stateBytes, member, placesWithin, places, unlessCut, readUnlocks, readShares, readTlcs, readWitness}
 use Rattle.fiber_witness.specs.Update.{takeUnlocks, keep, shareLeft, stateAfter, stateLeft, byRead, unlocked, written, updated}
-use Rattle.types_c.specs.Answers.{answered, call}
+use Rattle.c_answer.specs.Answers.{answered, call}
 use Rattle.settlement_c.specs.Settlement.{OutCall, writtenAnswer, writtenCall, updateCall}
 use Rattle.book.specs.Trace.{Transition, trace}
 use Rattle.book.specs.Book.{tlcLen, tlcAmount, shareAmount, tlcsIn, shareIn, placesFrom, share, tlc, payeeOf, sameSide, change}

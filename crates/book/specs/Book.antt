@@ -1,4 +1,4 @@
--- The book of a channel; document 01, "The book". It says what each update of one channel answers and leaves, by the layout of a witness and by
+-- The book of a channel; docs/SCOPE.md, "The book". It says what each update of one channel answers and leaves, by the layout of a witness and by
 -- document 01's words alone: no length and no reading of unlocks is the update's.
 use Prim.Native.Nat.{ℕ, zero, suc, _+_, _*_}
 use mathlib.Core.Bool.{Bool, true, false, cond}

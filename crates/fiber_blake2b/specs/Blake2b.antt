@@ -111,7 +111,7 @@ chain p s = numbers (hashed (initial 8 p) s)
 unfoldable pub blake2b : List ℕ → List ℕ → List ℕ
 blake2b p s = take (getD p 0 0) (chain p s)
 
--- document 01, Hashes: 32 bytes, no key, the personalisation "ckb-default-hash"
+-- docs/SCOPE.md, "Hashes": 32 bytes, no key, the personalisation "ckb-default-hash"
 unfoldable pub ckbPersonal : List ℕ
 ckbPersonal = 99 ∷ 107 ∷ 98 ∷ 45 ∷ 100 ∷ 101 ∷ 102 ∷ 97 ∷ 117 ∷ 108 ∷ 116 ∷ 45 ∷ 104 ∷ 97 ∷ 115 ∷ 104 ∷ []
 

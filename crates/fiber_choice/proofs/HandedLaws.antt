@@ -583,14 +583,14 @@ module _ (h : ℕ) (args s preimages out : List ℕ) (remote local : List ℕ) (
   unfolding joined
   whole = rw (unlock-same, after-same)
 
-  module _ (key : Key) (delay : Delay) (place u k : ℕ) (eu : u ≡ witnessLen (p .flag)) (ek : k ≡ 57 + (length args - 57)) where
+  module _ (last : Bool) (key : Key) (delay : Delay) (place u k : ℕ) (eu : u ≡ witnessLen (p .flag)) (ek : k ≡ 57 + (length args - 57)) where
     -- their length, as the code has it
     pub handed-size : length (joined args es ps remote local p) ≡ u + (73 + length s / (98 + h) * recordLen h) + k
     handed-size = omega (arith, joined-size h args s preimages remote local p a d f planned-pair, tlcs-flat h s)
 
     -- 13
     pub handed-short : length out < u + (73 + length s / (98 + h) * recordLen h) + k
-        → (answer·.Refused 13 (u + (73 + length s / (98 + h) * recordLen h) + k) ≡ handedOut h args es ps remote local choice key delay place out .answer) × (out ≡ handedOut h args es ps remote local choice key delay place out .bytes)
+        → (answer·.Refused 13 (u + (73 + length s / (98 + h) * recordLen h) + k) ≡ handedOut h args es ps remote local last choice key delay place out .answer) × (out ≡ handedOut h args es ps remote local last choice key delay place out .bytes)
     unfolding handedOut
     handed-short g =
         let t = lt-leb (u + (73 + length s / (98 + h) * recordLen h) + k) (length out) g in
@@ -610,9 +610,10 @@ module _ (h : ℕ) (args s preimages out : List ℕ) (remote local : List ℕ) (
           «args_len» = k;
           place = place;
           len = l;
+          last = last;
         })
-        ≡ handedOut h args es ps remote local choice key delay place out .answer)
-        × (out′ ≡ handedOut h args es ps remote local choice key delay place out .bytes)
+        ≡ handedOut h args es ps remote local last choice key delay place out .answer)
+        × (out′ ≡ handedOut h args es ps remote local last choice key delay place out .bytes)
     unfolding handedOut
     handed-whole g m l out′ em el eo =
         let t = le-leb (u + (73 + length s / (98 + h) * recordLen h) + k) (length out) g in

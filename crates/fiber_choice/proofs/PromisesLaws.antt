@@ -6,13 +6,13 @@ use native.Mathlib.Nat.{div-mul-le-self}
 use native.Mathlib.Omega.{arith}
 use mathlib.Core.Path.{_≡_, refl, sym, ap, subst, _∙_}
 use mathlib.Core.Bool.{Bool, true, false, cond, _&&_, false≢true}
-use mathlib.Core.List.{List, [], _∷_, _++_, append-assoc}
+use mathlib.Core.List.{List, [], _∷_, _++_, flatten, append-assoc}
 use lib.Dec.{eqb, ltb, leb}
 use lib.ListN.{length, getD, take, drop, replicate, length-append}
 use lib.Seq.{sets, sets-eq, drop-drop, take-at, drop-at}
 use borrow.Author.Tests.{lt-ltb, ltb-true, le-leb, leb-true, eq-eqb, eqb-true}
 use Rattle.fiber_bytes.specs.Bytes.{part}
-use Rattle.fiber_bytes.proofs.BytesLaws.{part-length}
+use Rattle.fiber_bytes.proofs.BytesLaws.{part-length, part-part}
 use Rattle.fiber_bytes.proofs.CaseLaws.{by-test, by-each, by-test₂}
 use Rattle.fiber_since.specs.declared.epoch.Epoch.{Epoch}
 use Rattle.fiber_since.specs.declared.epoch.Scaled.{Scaled}
@@ -50,19 +50,19 @@ use Rattle.fiber_choice.specs.declared.kinds.ChoiceAnswer.the-variants a
 use Rattle.fiber_choice.specs.Entries.{same, entries, trackedLen, trackedRecords, pairLen}
 use Rattle.fiber_choice.specs.Request.{Request, settlementTlcs, trackedTlcs, pairs, validRequest, delayOf}
 use Rattle.fiber_choice.specs.FirstRecords.{firstRecords, firstRemote, firstLocal, firstState}
-use Rattle.fiber_choice.specs.Walk.{ourShare, Verdict, passed, timeout, ready, falls, stepOf, onward, walk, orShare}
+use Rattle.fiber_choice.specs.Walk.{ourShare, Verdict, passed, timeout, ready, falls, stepOf, onward, walk, orShare, ourSide}
 use Rattle.fiber_choice.specs.Verdicts.{duesBy, verdicts, mayShare, walked}
 use Rattle.fiber_types.specs.Records.{Outcome}
 use Rattle.fiber_choice.specs.HandedOut.{choiceByte, unlockOf, takes, newArgs, choiceAmount, recordSize, handedOut}
-use Rattle.fiber_choice.specs.Settlements.{walkedBy, orWait, ifReady, laterReady, laterChoice, unsettled, laterPlace, laterState, laterOf, later, firstDelay, firstPlace, firstThirds, firstReady, first}
+use Rattle.fiber_choice.specs.Settlements.{walkedBy, orWait, ifReady, laterReady, isLast, laterChoice, unsettled, laterPlace, laterState, laterOf, later, firstDelay, firstPlace, firstThirds, firstReady, first}
 use Rattle.fiber_choice.specs.Choice.{afterDelay, choiceOf, recordPart, recordOf}
 use Rattle.fiber_choice.specs.inner.Plan.{Within, Below}
-use Rattle.fiber_choice.specs.Promises.{Decides, tlcsLeft, tlcsBefore, KeyIn, PairIn, Before, Onward, waits, stays, sooner, atTime, Promised, Promises}
+use Rattle.fiber_choice.specs.Promises.{Decides, tlcsLeft, tlcsBefore, KeyIn, PairIn, Before, Onward, waits, stays, sooner, atTime, Promised, Promises, otherKey}
 use Rattle.fiber_choice.proofs.EntriesLaws.{tracked-length, lists-equal}
 use Rattle.fiber_choice.proofs.HandedLaws.{tracked-size, tlcs-length, tlc-at, each-tracked, after-small, unlock-least, new-lengths, unlock-whole, unlock-accepted}
 use Rattle.fiber_choice.proofs.FirstRecordsLaws.{share-by-length}
 use Rattle.fiber_choice.proofs.WalkLaws.{StepWithin}
-use Rattle.fiber_choice.proofs.SettlementsLaws.{later-ready, choice-within, first-ready, first-built, first-within, standing-at}
+use Rattle.fiber_choice.proofs.SettlementsLaws.{later-ready, choice-within, first-ready, first-built, first-within, standing-at, choice-share}
 
 -- ---- a later time, one step
 
@@ -172,12 +172,15 @@ States q false w s = s ≡ firstState (q .h) (q .forRemote) (q .settlement)
 record Begun (q : Request) (isLater : Bool) (w : List ℕ) : Type 0 where
   remote : List ℕ
   local : List ℕ
+  last : Bool
   delay : Choice → Delay
   place : Choice → ℕ
   step : ℕ → Step
-  comes : (time : ℕ) (out : List ℕ) → choiceOf (atTime q time) isLater w out ≡ orWait (atTime q time) remote local delay place out (step time)
+  comes : (time : ℕ) (out : List ℕ) → choiceOf (atTime q time) isLater w out ≡ orWait (atTime q time) remote local last delay place out (step time)
   within : (time : ℕ) → StepWithin (length (trackedTlcs q)) (length (settlementTlcs q)) (length (pairs q)) (step time)
   moves : (time time′ : ℕ) → time ≤ time′ → Onward (step time) (step time′)
+  lasts : last ≡ (isLater && isLast (cond (q .forRemote) remote local))
+  shares : last ≡ true → (time : ℕ) → step time ≡ ourShare (q .forRemote)
   hash : validHashLen (q .h) ≡ true
   few : length (trackedTlcs q) ≤ 254
   tlcs : tlcsBefore q isLater w ≡ trackedRecords (trackedTlcs q)
@@ -231,10 +234,10 @@ module _ (q : Request) (w : List ℕ) (n sharePlace : ℕ) (t : Taken) where
     stand-few : length (trackedTlcs q) ≤ 254
     stand-few = omega (arith, later-ready q stand ours r .0, ap length stand-tracked, tracked-length (trackedTlcs q))
 
-    later-moves : (time time′ : ℕ) → time ≤ time′ → Onward (laterChoice (atTime q time) other) (laterChoice (atTime q time′) other)
+    later-moves : (time time′ : ℕ) → time ≤ time′ → Onward (laterChoice (atTime q time) (isLast other)) (laterChoice (atTime q time′) (isLast other))
     unfolding laterChoice
     later-moves time time′ g =
-        by-test₂ Onward (same (take 20 other) (replicate 20 0)) _ _ _ _ (λ _. stays)
+        by-test₂ Onward (isLast other) _ _ _ _ (λ _. stays)
         (λ _. later-time-walk (q .h) (q .forRemote) time time′ (settlementTlcs q) (pairs q) stage·.Later (trackedTlcs q) g)
 
     later-states : States q true w (stateBytes (trackedRecords (trackedTlcs q)) remoteLeft localLeft)
@@ -259,12 +262,15 @@ module _ (q : Request) (w : List ℕ) (n sharePlace : ℕ) (t : Taken) where
     later-begun = record {
       remote = remoteLeft;
       local = localLeft;
+      last = isLast other;
       delay = λ c. delay·.None;
       place = laterPlace (q .h) (unsettled (t .settled) 0 n);
-      step = λ time. laterChoice (atTime q time) other;
+      step = λ time. laterChoice (atTime q time) (isLast other);
       comes = λ time out. rw (valid-at q time v, f, u, r);
-      within = λ time. choice-within (atTime q time) other;
+      within = λ time. choice-within (atTime q time) (isLast other);
       moves = later-moves;
+      lasts = refl;
+      shares = λ e time. sym (choice-share (atTime q time) (isLast other) e);
       hash = valid-hash q v;
       few = stand-few;
       tlcs = stand-left ∙ stand-tracked;
@@ -302,12 +308,15 @@ module _ (q : Request) (w : List ℕ) (v : validRequest q ≡ true) (full : Epoc
       record {
         remote = firstRemote (q .forRemote) d;
         local = firstLocal (q .forRemote) d;
+        last = false;
         delay = λ c. delay·.Epoch (firstDelay third two full c);
         place = firstPlace (q .h);
         step = λ time. walkedBy (atTime q time) stage;
         comes = λ time out. rw (valid-at q time v, f, r, x, y);
         within = λ time. first-within (atTime q time) (duesBy (q .header) third two full (q .current)) (first-ready q full r .many);
         moves = λ time time′. later-time-walk (q .h) (q .forRemote) time time′ (settlementTlcs q) (pairs q) stage (trackedTlcs q);
+        lasts = refl;
+        shares = λ e. absurd (false≢true e);
         hash = valid-hash q v;
         few = built-few;
         tlcs = built-tracked;
@@ -384,6 +393,31 @@ parts-of a b c d x e =
       (ap (take (length b)) f ∙ take-at b (c ++ d) (length b) refl, ap (take (length c)) g ∙ take-at c d (length c) refl),
     )
 
+-- the key hash in the other slot of a state, by the place of its shares
+other-key : (forRemote : Bool) (rs : List (List ℕ)) (remote local : List ℕ) → length remote ≡ 36 → length local ≡ 36
+    → (shares : ℕ) → shares + 72 ≡ length (stateBytes rs remote local)
+    → take 20 (cond forRemote remote local) ≡ part (stateBytes rs remote local) (shares + cond forRemote 0 36) 20
+unfolding stateBytes
+other-key forRemote rs remote local e f shares g = go forRemote
+  where
+    state : List ℕ
+    state = (length rs ∷ flatten rs) ++ (remote ++ local)
+
+    behind : drop shares state ≡ remote ++ local
+    behind =
+        drop-at (length rs ∷ flatten rs) (remote ++ local) shares
+        (omega (arith, g, length-append (length rs ∷ flatten rs) (remote ++ local), length-append remote local, e, f))
+
+    go : (b : Bool) → take 20 (cond b remote local) ≡ part state (shares + cond b 0 36) 20
+    go true =
+        ap (take 20) (sym (take-at remote local 36 e) ∙ ap (take 36) (sym behind))
+        ∙ part-part state shares 36 0 20 (omega arith)
+    go false = ap (take 20) (sym (drop-at remote local 36 e) ∙ ap (drop 36) (sym behind) ∙ drop-drop 36 shares state)
+
+-- a step chooses one thing
+chosen-one : {x y : Choice} {a b : Key} → step·.Chosen x a ≡ step·.Chosen y b → x ≡ y
+chosen-one e = cc
+
 module _ (q : Request) (isLater : Bool) (w : List ℕ) (c : Begun q isLater w) where
   -- the state before an unlock, after it, and all that is handed out
   abbrev before : List ℕ
@@ -400,6 +434,7 @@ module _ (q : Request) (isLater : Bool) (w : List ℕ) (c : Begun q isLater w) w
     chosen : c .step (q .time) ≡ step·.Chosen (d .choice) (d .key)
     amount : d .amount ≡ choiceAmount (trackedRecords (trackedTlcs q)) (c .remote) (c .local) (d .choice)
     begins : d .place ≡ c .place (d .choice)
+    ends : d .last ≡ c .last
     len : d .len ≡ recordSize (q .h) (d .choice)
     room : length (joined (d .choice)) ≤ length out
     unlock : part bytes 0 (d .«unlock_len») ≡ unlockOf (pairs q) (d .choice)
@@ -409,7 +444,7 @@ module _ (q : Request) (isLater : Bool) (w : List ℕ) (c : Begun q isLater w) w
 
   module _ (out : List ℕ) where
     abbrev outcomeOf : Step → Outcome ChoiceAnswer
-    outcomeOf s = orWait q (c .remote) (c .local) (c .delay) (c .place) out s
+    outcomeOf s = orWait q (c .remote) (c .local) (c .last) (c .delay) (c .place) out s
 
     step-handed : (d : Decision) (s : Step) → c .step (q .time) ≡ s → outcomeOf s .answer ≡ answer·.Chosen d → Handed out d (outcomeOf s .bytes)
     unfolding orWait handedOut
@@ -420,7 +455,7 @@ module _ (q : Request) (isLater : Bool) (w : List ℕ) (c : Begun q isLater w) w
         let r : 0 + length (joined choice) ≤ length out = omega (arith, leb-true (length (joined choice)) (length out) g) in
         let p = parts-of (unlockOf (pairs q) choice) before (newArgs (q .args) (after choice)) (drop (0 + length (joined choice)) out) (sets out 0 (joined choice)) (sets-eq (joined choice) out 0 r) in
         subst (λ (x : Decision). Handed out x (sets out 0 (joined choice))) (inside _ d e)
-        (record { chosen = f; amount = refl; begins = refl; len = refl; room = omega arith; unlock = p .0; state = p .1 .0; new = p .1 .1; size = refl }))
+        (record { chosen = f; amount = refl; begins = refl; ends = refl; len = refl; room = omega arith; unlock = p .0; state = p .1 .0; new = p .1 .1; size = refl }))
         (λ _ e. never d _ tt e)
       where
         -- the answer holds one thing
@@ -446,6 +481,17 @@ module _ (q : Request) (isLater : Bool) (w : List ℕ) (c : Begun q isLater w) w
     chosen-in : KeyIn (length (settlementTlcs q)) (d .key) × PairIn (length (pairs q)) (d .choice)
     unfolding Within
     chosen-in = (chosen-within .1, chosen-within .0 .1)
+
+    -- the last settlement, by the state; and our share in it
+    last-state : (shares : ℕ) → shares + 72 ≡ d .«state_len»
+        → d .last ≡ (isLater && same (otherKey q shares (part bytes (d .«unlock_len») (d .«state_len»))) (replicate 20 0))
+    unfolding isLast
+    last-state shares e =
+        let f : shares + 72 ≡ length before = e ∙ t .size in
+        t .ends ∙ c .lasts ∙ ap (λ (k : List ℕ). isLater && same k (replicate 20 0)) (rw (t .state) (other-key (q .forRemote) (trackedRecords (trackedTlcs q)) (c .remote) (c .local) (c .remotes) (c .locals) shares f))
+
+    last-share : d .last ≡ true → d .choice ≡ choice·.Share (ourSide (q .forRemote))
+    last-share e = chosen-one (sym (t .chosen) ∙ c .shares (sym (t .ends) ∙ e) (q .time))
 
     module _ (place : ℕ) (way : Way) (f : d .choice ≡ choice·.Tlc place way) where
       chosen-below : place < length (tlcsBefore q isLater w)
@@ -543,6 +589,8 @@ module _ (q : Request) (isLater : Bool) (w : List ℕ) (c : Begun q isLater w) w
               chosen-below q isLater w c out d bytes t place way f,
               (chosen-record q isLater w c out d bytes t place way f, chosen-amount q isLater w c out d bytes t place way f),
             );
+        last-is = λ shares e. last-state q isLater w c out d bytes t shares e;
+        last-ours = last-share q isLater w c out d bytes t;
         in-their-lists = chosen-in q isLater w c out d bytes t;
         left = after q isLater w c (d .choice);
         room = omega (arith, t .size, after-small tlcs (c .remote) (c .local) (d .choice) (c .remotes) (c .locals));

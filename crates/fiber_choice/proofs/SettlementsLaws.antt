@@ -52,7 +52,7 @@ use Rattle.fiber_choice.specs.Walk.{ourShare}
 use Rattle.fiber_choice.specs.Verdicts.{duesBy}
 use Rattle.fiber_types.specs.Records.{Outcome, Gives}
 use Rattle.fiber_choice.specs.HandedOut.{handedOut}
-use Rattle.fiber_choice.specs.Settlements.{walkedBy, orWait, ifReady, laterReady, laterChoice, unsettled, laterPlace, laterState, laterOf, later, firstDelay, firstPlace, firstThirds, lengthsZero, firstReady, first}
+use Rattle.fiber_choice.specs.Settlements.{walkedBy, orWait, ifReady, laterReady, isLast, laterChoice, unsettled, laterPlace, laterState, laterOf, later, firstDelay, firstPlace, firstThirds, lengthsZero, firstReady, first}
 use Rattle.fiber_choice.specs.inner.Plan.{Reaches, Within, Below}
 use Rattle.fiber_choice.proofs.EntriesLaws.{lists-short, lists-length, record-at, tracked-length, entries-length, entry-room, entries-cons, lists-equal}
 use Rattle.fiber_choice.proofs.FirstRecordsLaws.{firsts-count}
@@ -80,15 +80,15 @@ module _ (r : Ready) (out : List ℕ) (o : Outcome ChoiceAnswer) where
   unfolding ifReady
   ready-yes e = rw e
 
-module _ (q : Request) (remote local : List ℕ) (delay : Choice → Delay) (place : Choice → ℕ) (out : List ℕ) (s : Step) where
+module _ (q : Request) (remote local : List ℕ) (last : Bool) (delay : Choice → Delay) (place : Choice → ℕ) (out : List ℕ) (s : Step) where
   -- row 22
-  pub nothing-chosen : (pending : ℕ) → s ≡ step·.Pending pending → Gives (orWait q remote local delay place out s) (answer·.Wait 22 0) out
+  pub nothing-chosen : (pending : ℕ) → s ≡ step·.Pending pending → Gives (orWait q remote local last delay place out s) (answer·.Wait 22 0) out
   unfolding orWait
   nothing-chosen pending e = (rw e, rw e)
 
   -- what is chosen
   pub one-chosen : (choice : Choice) (key : Key) → s ≡ step·.Chosen choice key
-      → handedOut (q .h) (q .args) (trackedTlcs q) (pairs q) remote local choice key (delay choice) (place choice) out ≡ orWait q remote local delay place out s
+      → handedOut (q .h) (q .args) (trackedTlcs q) (pairs q) remote local last choice key (delay choice) (place choice) out ≡ orWait q remote local last delay place out s
   unfolding orWait
   one-chosen choice key e = rw e
 
@@ -356,22 +356,27 @@ later-ready q tlcs ours = go (leb (length tlcs) 254) (sameLists tlcs (trackedRec
     go true false z p e = absurd (subst No e tt)
     go false y z p e = absurd (subst No e tt)
 
-module _ (q : Request) (other l : List ℕ) (b : Bool) (e : l ≡ part other 0 20) (f : b ≡ same l (replicate 20 0)) where
-  -- the other side has taken its own
-  pub choice-share : b ≡ true → ourShare (q .forRemote) ≡ laterChoice q other
-  unfolding laterChoice
-  choice-share g = rw (← e, ← f, g)
+-- the test, as the code makes it
+pub last-by : (other l : List ℕ) (b : Bool) → l ≡ part other 0 20 → b ≡ same l (replicate 20 0) → b ≡ isLast other
+unfolding isLast
+last-by other l b e f = rw (← e, ← f) refl
 
-  -- it has not
-  pub choice-walk : b ≡ false → walkedBy q stage·.Later ≡ laterChoice q other
+module _ (q : Request) (last : Bool) where
+  -- the other side's share is gone
+  pub choice-share : last ≡ true → ourShare (q .forRemote) ≡ laterChoice q last
   unfolding laterChoice
-  choice-walk g = rw (← e, ← f, g)
+  choice-share g = rw g
+
+  -- it is not
+  pub choice-walk : last ≡ false → walkedBy q stage·.Later ≡ laterChoice q last
+  unfolding laterChoice
+  choice-walk g = rw g
 
 -- what is chosen is among the tracked TLCs
-pub choice-within : (q : Request) (other : List ℕ) → StepWithin (length (trackedTlcs q)) (length (settlementTlcs q)) (length (pairs q)) (laterChoice q other)
+pub choice-within : (q : Request) (last : Bool) → StepWithin (length (trackedTlcs q)) (length (settlementTlcs q)) (length (pairs q)) (laterChoice q last)
 unfolding laterChoice Within Below
-choice-within q other =
-    by-each (StepWithin (length (trackedTlcs q)) (length (settlementTlcs q)) (length (pairs q))) (same (take 20 other) (replicate 20 0)) _ _ ((tt, tt), tt)
+choice-within q last =
+    by-each (StepWithin (length (trackedTlcs q)) (length (settlementTlcs q)) (length (pairs q))) last _ _ ((tt, tt), tt)
     (walked-within (q .h) (q .forRemote) (q .time) (settlementTlcs q) (pairs q) stage·.Later (length (trackedTlcs q)) (reaches-later _ _) (trackedTlcs q) refl)
 
 -- one of two, as a test picks it
@@ -381,10 +386,10 @@ by-flag b x y z (inr p) = rw (p .0) (p .1)
 
 -- of a state that the witness's unlocks leave, with what the code finds of it
 module _ (q : Request) (out : List ℕ) (tlcs : List (List ℕ)) (firsts remote local ours other : List ℕ)
-    (p : ours ≡ cond (q .forRemote) local remote) (o : other ≡ cond (q .forRemote) remote local) (r : Ready) (e : r ≡ laterReady q tlcs ours) where
-  state-as : ifReady r out (orWait q remote local (λ c. delay·.None) (laterPlace (q .h) firsts) out (laterChoice q other)) ≡ laterState q out tlcs firsts remote local
+    (p : ours ≡ cond (q .forRemote) local remote) (o : other ≡ cond (q .forRemote) remote local) (last : Bool) (l : last ≡ isLast other) (r : Ready) (e : r ≡ laterReady q tlcs ours) where
+  state-as : ifReady r out (orWait q remote local last (λ c. delay·.None) (laterPlace (q .h) firsts) out (laterChoice q last)) ≡ laterState q out tlcs firsts remote local
   unfolding laterState
-  state-as = rw (e, p, o)
+  state-as = rw (e, p, l, o)
 
   -- rows 12, 20 and 21
   pub state-refused : (number : ℕ) → r ≡ ready·.Refused number → Gives (laterState q out tlcs firsts remote local) (answer·.Refused number 0) out
@@ -400,21 +405,21 @@ module _ (q : Request) (out : List ℕ) (tlcs : List (List ℕ)) (firsts remote 
         let z = later-ready q tlcs ours (sym e ∙ y) in
         lists-few (trackedTlcs q) tlcs (length tlcs) 254 refl (z .0) (z .1)
 
-    module _ (s : Step) (f : s ≡ laterChoice q other) where
+    module _ (s : Step) (f : s ≡ laterChoice q last) where
       -- row 22
       pub state-nothing : (pending : ℕ) → s ≡ step·.Pending pending → Gives (laterState q out tlcs firsts remote local) (answer·.Wait 22 0) out
-      state-nothing pending g = leaves-as _ _ (ready-yes r out _ y ∙ state-as) _ _ (nothing-chosen q remote local (λ c. delay·.None) (laterPlace (q .h) firsts) out (laterChoice q other) pending (sym f ∙ g))
+      state-nothing pending g = leaves-as _ _ (ready-yes r out _ y ∙ state-as) _ _ (nothing-chosen q remote local last (λ c. delay·.None) (laterPlace (q .h) firsts) out (laterChoice q last) pending (sym f ∙ g))
 
       module _ (choice : Choice) (key : Key) (g : s ≡ step·.Chosen choice key) where
         pub state-within : Within (length (trackedTlcs q)) (length (pairs q)) choice
-        state-within = subst (StepWithin (length (trackedTlcs q)) (length (settlementTlcs q)) (length (pairs q))) (sym f ∙ g) (choice-within q other) .0
+        state-within = subst (StepWithin (length (trackedTlcs q)) (length (settlementTlcs q)) (length (pairs q))) (sym f ∙ g) (choice-within q last) .0
 
         -- what is handed out
         pub state-chosen : (place : ℕ) → place ≡ laterPlace (q .h) firsts choice → (a : ChoiceAnswer) (after : List ℕ)
-            → Gives (handedOut (q .h) (q .args) (trackedTlcs q) (pairs q) remote local choice key delay·.None place out) a after
+            → Gives (handedOut (q .h) (q .args) (trackedTlcs q) (pairs q) remote local last choice key delay·.None place out) a after
             → Gives (laterState q out tlcs firsts remote local) a after
         state-chosen place k a after w =
-            leaves-as _ _ (one-chosen q remote local (λ c. delay·.None) (laterPlace (q .h) firsts) out (laterChoice q other) choice key (sym f ∙ g) ∙ ready-yes r out _ y ∙ state-as) a after (rw k at w)
+            leaves-as _ _ (one-chosen q remote local last (λ c. delay·.None) (laterPlace (q .h) firsts) out (laterChoice q last) choice key (sym f ∙ g) ∙ ready-yes r out _ y ∙ state-as) a after (rw k at w)
 
 module _ (q : Request) (w out : List ℕ) where
   -- a witness that is not read
@@ -597,13 +602,13 @@ module _ (q : Request) (out : List ℕ) (full third two : Epoch) (x y : Scaled) 
   abbrev locally : List ℕ
   locally = firstLocal (q .forRemote) (q .settlement)
 
-  thirds-as : orWait q remotely locally scaledDelay (firstPlace (q .h)) out s ≡ firstThirds q out full (scaled full 1 3) (scaled full 2 3)
+  thirds-as : orWait q remotely locally false scaledDelay (firstPlace (q .h)) out s ≡ firstThirds q out full (scaled full 1 3) (scaled full 2 3)
   unfolding firstThirds
   thirds-as = rw (← ex, fx, ← ey, fy, ← ed, es)
 
   -- row 22
   pub thirds-nothing : (pending : ℕ) → s ≡ step·.Pending pending → Gives (firstThirds q out full (scaled full 1 3) (scaled full 2 3)) (answer·.Wait 22 0) out
-  thirds-nothing pending g = leaves-as _ _ thirds-as _ _ (nothing-chosen q remotely locally scaledDelay (firstPlace (q .h)) out s pending g)
+  thirds-nothing pending g = leaves-as _ _ thirds-as _ _ (nothing-chosen q remotely locally false scaledDelay (firstPlace (q .h)) out s pending g)
 
   module _ (choice : Choice) (key : Key) (g : s ≡ step·.Chosen choice key) where
     pub thirds-within : length (settlementTlcs q) ≡ length (trackedTlcs q) → Within (length (trackedTlcs q)) (length (pairs q)) choice
@@ -615,10 +620,10 @@ module _ (q : Request) (out : List ℕ) (full third two : Epoch) (x y : Scaled) 
     -- what is handed out
     pub thirds-chosen : (remote local : List ℕ) (delay : Epoch) (place : ℕ) → remote ≡ firstRemote (q .forRemote) (q .settlement) → local ≡ firstLocal (q .forRemote) (q .settlement)
         → delay ≡ firstDelay third two full choice → place ≡ firstPlace (q .h) choice → (a : ChoiceAnswer) (after : List ℕ)
-        → Gives (handedOut (q .h) (q .args) (trackedTlcs q) (pairs q) remote local choice key (delay·.Epoch delay) place out) a after
+        → Gives (handedOut (q .h) (q .args) (trackedTlcs q) (pairs q) remote local false choice key (delay·.Epoch delay) place out) a after
         → Gives (firstThirds q out full (scaled full 1 3) (scaled full 2 3)) a after
     thirds-chosen remote local delay place er el ed ep a after w =
-        leaves-as _ _ (one-chosen q remotely locally scaledDelay (firstPlace (q .h)) out s choice key g ∙ thirds-as) a after (rw (er, el, ed, ep) at w)
+        leaves-as _ _ (one-chosen q remotely locally false scaledDelay (firstPlace (q .h)) out s choice key g ∙ thirds-as) a after (rw (er, el, ed, ep) at w)
 
 -- what is chosen is among the tracked TLCs
 pub first-within : (q : Request) (d : Dues) → length (settlementTlcs q) ≡ length (trackedTlcs q)

@@ -1,4 +1,4 @@
--- The choice of an unlock, one operation for a first and a later settlement; document 01, "The choice" and the order of the rows.
+-- The choice of an unlock, one operation for a first and a later settlement; docs/SCOPE.md, "The choice" and the order of the rows.
 use Prim.Native.Nat.{ℕ}
 use mathlib.Core.Bool.{Bool, cond}
 use mathlib.Core.List.{List}

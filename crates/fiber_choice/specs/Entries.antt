@@ -1,4 +1,4 @@
--- The lists that the host lends, flat, one entry behind the other; document 01, "What the host lends".
+-- The lists that the host lends, flat, one entry behind the other; docs/SCOPE.md, "What the host lends".
 use Prim.Native.Nat.{ℕ, _+_, _/_, _%_}
 use mathlib.Core.Bool.{Bool, true, false, cond, _&&_}
 use mathlib.Core.List.{List, [], _∷_, map}

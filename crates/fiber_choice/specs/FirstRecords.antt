@@ -1,4 +1,4 @@
--- First records; document 01, "First records", with rows 14, 12 and 13 of its table.
+-- First records; docs/SCOPE.md, "First records", with rows 14, 12 and 13 of its table.
 use Prim.Native.Nat.{ℕ, _+_, _*_, _/_, _^_}
 use mathlib.Core.Bool.{Bool, true, cond, _&&_}
 use mathlib.Core.List.{List, _++_, map}

@@ -1,6 +1,6 @@
--- What is handed out; document 01, "Handed out", with row 13 of its table.
+-- What is handed out; docs/SCOPE.md, "Handed out", with row 13 of its table.
 use Prim.Native.Nat.{ℕ}
-use mathlib.Core.Bool.{true, false, cond}
+use mathlib.Core.Bool.{Bool, true, false, cond}
 use mathlib.Core.List.{List, [], _∷_, _++_}
 use lib.ListN.{length, getD, take, drop, replicate}
 use lib.Seq.{sets}
@@ -61,10 +61,10 @@ unfoldable pub recordSize : ℕ → Choice → ℕ
 recordSize h (choice·.Share side) = 0
 recordSize h (choice·.Tlc place way) = recordLen h
 
--- Of a choice with its key and its delay, over shares, the record being at a place: the unlock, the state before it and the new args, joined;
--- 13 at their length where they have no room.
-unfoldable pub handedOut : ℕ → List ℕ → List (List ℕ) → List (List ℕ) → List ℕ → List ℕ → Choice → Key → Delay → ℕ → List ℕ → Outcome ChoiceAnswer
-handedOut h args tracked ps remote local choice key delay place out =
+-- Of a choice with its key and its delay, over shares, the record being at a place, the settlement the last one or not: the unlock, the state
+-- before it and the new args, joined; 13 at their length where they have no room.
+unfoldable pub handedOut : ℕ → List ℕ → List (List ℕ) → List (List ℕ) → List ℕ → List ℕ → Bool → Choice → Key → Delay → ℕ → List ℕ → Outcome ChoiceAnswer
+handedOut h args tracked ps remote local last choice key delay place out =
     let tlcs = trackedRecords tracked in
     let unlock = unlockOf ps choice in
     let before = stateBytes tlcs remote local in
@@ -82,6 +82,7 @@ handedOut h args tracked ps remote local choice key delay place out =
         «args_len» = length new;
         place = place;
         len = recordSize h choice;
+        last = last;
       });
       bytes = sets out 0 joined;
     })

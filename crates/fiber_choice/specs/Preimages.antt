@@ -1,4 +1,4 @@
--- Which stored preimage counts; document 01, "What the host lends".
+-- Which stored preimage counts; docs/SCOPE.md, "What the host lends".
 use Prim.Native.Nat.{ℕ}
 use mathlib.Core.Bool.{Bool, cond}
 use mathlib.Core.List.{List, []}

@@ -2,9 +2,9 @@
 -- statement. The definitions that they speak of are those that the contracts of the operations cite.
 use Prim.Native.Nat.{ℕ, _+_, _≤_, _<_}
 use mathlib.Core.Path.{_≡_}
-use mathlib.Core.Bool.{Bool, true, false, cond}
+use mathlib.Core.Bool.{Bool, true, false, cond, _&&_}
 use mathlib.Core.List.{List, [], _∷_, _++_}
-use lib.ListN.{length, getD}
+use lib.ListN.{length, getD, replicate}
 use lib.Seq.{sets}
 use Rattle.fiber_bytes.specs.Bytes.{part}
 use Rattle.fiber_types.specs.declared.answer.Written.the-variants as written·
@@ -21,7 +21,9 @@ use Rattle.fiber_choice.specs.declared.kinds.Step.the-variants as step·
 use Rattle.fiber_choice.specs.declared.kinds.Decision.{Decision}
 use Rattle.fiber_choice.specs.declared.kinds.ChoiceAnswer.the-variants as answer·
 use Rattle.fiber_choice.specs.Request.{Request, settlementTlcs, pairs}
+use Rattle.fiber_choice.specs.Entries.{same}
 use Rattle.fiber_choice.specs.FirstRecords.{firstRecords, firstState}
+use Rattle.fiber_choice.specs.Walk.{ourSide}
 use Rattle.fiber_choice.specs.HandedOut.{choiceByte, newArgs}
 use Rattle.fiber_choice.specs.Choice.{choiceOf, recordOf}
 
@@ -38,6 +40,10 @@ tlcsLeft h w (faulty number place) = []
 
 abbrev pub tlcsBefore : Request → Bool → List ℕ → List (List ℕ)
 tlcsBefore q isLater w = cond isLater (tlcsLeft (q .h) w (unlocked (q .h) w)) (firstRecords (q .h) (q .forRemote) (settlementTlcs q))
+
+-- the key hash in the other slot of a state whose shares are at a place
+abbrev pub otherKey : Request → ℕ → List ℕ → List ℕ
+otherKey q shares state = part state (shares + cond (q .forRemote) 0 36) 20
 
 -- the place of a key is among n settlement TLCs, that of a pair among m
 abbrev pub KeyIn : ℕ → Key → Type 0
@@ -88,6 +94,10 @@ pub record Promised (q : Request) (isLater : Bool) (w out bytes : List ℕ) (d :
       → (place < length (tlcsBefore q isLater w))
       × ((recordOf isLater (answer·.Chosen d) w (q .tracked) ≡ getD (tlcsBefore q isLater w) place [])
       × (d .amount ≡ amountAt (getD (tlcsBefore q isLater w) place []) 1))
+  -- It is the last settlement exactly if it is a later one and the other slot's key hash in the state that is handed out is zeros. Our share is
+  -- chosen then, whatever TLCs stand: the reference makes no successor cell and pays out the whole capacity.
+  pub last-is : (shares : ℕ) → shares + 72 ≡ d .«state_len» → d .last ≡ (isLater && same (otherKey q shares (part bytes (d .«unlock_len») (d .«state_len»))) (replicate 20 0))
+  pub last-ours : d .last ≡ true → d .choice ≡ choice·.Share (ourSide (q .forRemote))
   -- key and pair lie in the lists that the host lent
   pub in-their-lists : KeyIn (length (settlementTlcs q)) (d .key) × PairIn (length (pairs q)) (d .choice)
   -- the update takes the unlock over the state, whatever the count byte in front; an output as long as the state has room for what it

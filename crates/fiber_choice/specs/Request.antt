@@ -1,4 +1,4 @@
--- What a choice is asked with; document 01, "What the host lends", with rows 14, 10 and 11 of its table.
+-- What a choice is asked with; docs/SCOPE.md, "What the host lends", with rows 14, 10 and 11 of its table.
 use Prim.Native.Nat.{ℕ}
 use mathlib.Core.Bool.{Bool, cond, _&&_}
 use mathlib.Core.List.{List}

@@ -1,6 +1,6 @@
--- The two settlements; document 01, "Later settlement" and "First settlement", with rows 7, 12, 20, 21 and 22 of its table.
+-- The two settlements; docs/SCOPE.md, "Later settlement" and "First settlement", with rows 7, 12, 20, 21 and 22 of its table.
 use Prim.Native.Nat.{ℕ, zero, suc, _+_, _*_}
-use mathlib.Core.Bool.{Bool, cond, _||_}
+use mathlib.Core.Bool.{Bool, false, cond, _||_}
 use mathlib.Core.List.{List, [], _∷_}
 use lib.ListN.{length, getD, take, replicate}
 use lib.Dec.{eqb, leb}
@@ -37,10 +37,10 @@ abbrev pub walkedBy : Request → Stage → Step
 walkedBy q stage = walked (q .h) (q .forRemote) (q .time) (settlementTlcs q) (pairs q) stage (trackedTlcs q)
 
 -- what is chosen is handed out, over shares, with the delay and the place that go with it; 22 where nothing is chosen
-unfoldable pub orWait : Request → List ℕ → List ℕ → (Choice → Delay) → (Choice → ℕ) → List ℕ → Step → Outcome ChoiceAnswer
-orWait q remote local delay place out (step·.Chosen choice key) =
-    handedOut (q .h) (q .args) (trackedTlcs q) (pairs q) remote local choice key (delay choice) (place choice) out
-orWait q remote local delay place out (step·.Pending pending) = unwritten (answer·.Wait 22 0) out
+unfoldable pub orWait : Request → List ℕ → List ℕ → Bool → (Choice → Delay) → (Choice → ℕ) → List ℕ → Step → Outcome ChoiceAnswer
+orWait q remote local last delay place out (step·.Chosen choice key) =
+    handedOut (q .h) (q .args) (trackedTlcs q) (pairs q) remote local last choice key (delay choice) (place choice) out
+orWait q remote local last delay place out (step·.Pending pending) = unwritten (answer·.Wait 22 0) out
 
 -- before the walk: a row, or what the walk comes to
 unfoldable pub ifReady : Ready → List ℕ → Outcome ChoiceAnswer → Outcome ChoiceAnswer
@@ -59,9 +59,13 @@ laterReady q tlcs ours =
     (ready·.Wait 20))
     (ready·.Refused 12)
 
--- our share if the other slot's key hash is all zeros, TLCs not looked at; else the walk
-unfoldable pub laterChoice : Request → List ℕ → Step
-laterChoice q other = cond (same (take 20 other) (replicate 20 0)) (ourShare (q .forRemote)) (walkedBy q stage·.Later)
+-- the last settlement: the other slot's key hash is all zeros
+unfoldable pub isLast : List ℕ → Bool
+isLast other = same (take 20 other) (replicate 20 0)
+
+-- our share in the last settlement, TLCs not looked at; else the walk
+unfoldable pub laterChoice : Request → Bool → Step
+laterChoice q last = cond last (ourShare (q .forRemote)) (walkedBy q stage·.Later)
 
 -- the places in the witness of the TLCs that stand, from place i on
 unfoldable pub unsettled : List ℕ → ℕ → ℕ → List ℕ
@@ -79,8 +83,8 @@ laterPlace h firsts (choice·.Tlc place way) = 2 + getD firsts place 0 * recordL
 unfoldable pub laterState : Request → List ℕ → List (List ℕ) → List ℕ → List ℕ → List ℕ → Outcome ChoiceAnswer
 laterState q out tlcs firsts remote local =
     let ours = cond (q .forRemote) local remote in
-    let other = cond (q .forRemote) remote local in
-    ifReady (laterReady q tlcs ours) out (orWait q remote local (λ choice. delay·.None) (laterPlace (q .h) firsts) out (laterChoice q other))
+    let last = isLast (cond (q .forRemote) remote local) in
+    ifReady (laterReady q tlcs ours) out (orWait q remote local last (λ choice. delay·.None) (laterPlace (q .h) firsts) out (laterChoice q last))
 
 -- a witness is given; update first
 unfoldable pub laterOf : Request → List ℕ → List ℕ → Unlocked → Outcome ChoiceAnswer
@@ -107,7 +111,7 @@ firstPlace h (choice·.Tlc place way) = place * trackedLen h + 33
 
 unfoldable pub firstThirds : Request → List ℕ → Epoch → Scaled → Scaled → Outcome ChoiceAnswer
 firstThirds q out full (scaled·.Epoch third) (scaled·.Epoch twoThirds) =
-    orWait q (firstRemote (q .forRemote) (q .settlement)) (firstLocal (q .forRemote) (q .settlement))
+    orWait q (firstRemote (q .forRemote) (q .settlement)) (firstLocal (q .forRemote) (q .settlement)) false
     (λ choice. delay·.Epoch (firstDelay third twoThirds full choice)) (firstPlace (q .h)) out
     (walkedBy q (stage·.First (duesBy (q .header) third twoThirds full (q .current))))
 firstThirds q out full (scaled·.Epoch third) (scaled·.Refused number place) = unwritten (answer·.Refused number place) out

@@ -1,4 +1,4 @@
--- The verdict of each TLC; document 01, "The choice", first the later settlement's bullets, then the first one's.
+-- The verdict of each TLC; docs/SCOPE.md, "The choice", first the later settlement's bullets, then the first one's.
 use Prim.Native.Nat.{ℕ, _+_}
 use mathlib.Core.Bool.{Bool, true, cond, _&&_}
 use mathlib.Core.List.{List, [], _∷_}

@@ -1,4 +1,4 @@
--- The walk over the TLCs, in order; document 01, "The choice". Each TLC has a verdict that does not depend on the time; a step is that
+-- The walk over the TLCs, in order; docs/SCOPE.md, "The choice". Each TLC has a verdict that does not depend on the time; a step is that
 -- verdict at a time. Both settlements walk so.
 use Prim.Native.Nat.{ℕ, _+_, _-_}
 use mathlib.Core.Bool.{Bool, cond, _&&_, not}

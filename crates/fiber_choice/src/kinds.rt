@@ -2,35 +2,6 @@
 use fiber_types::epoch::Epoch;
 use fiber_types::tlc::Amount;
 
-// The bytes of a settlement TLC.
-pub const SETTLEMENT_TLC: usize = 124;
-
-// Where the fields of a settlement TLC begin, behind received and algorithm.
-pub const SETTLEMENT_AMOUNT: usize = 2;
-
-pub const SETTLEMENT_HASH: usize = 18;
-
-pub const SETTLEMENT_EXPIRY: usize = 50;
-
-pub const SETTLEMENT_LOCAL_KEY: usize = 58;
-
-pub const SETTLEMENT_REMOTE_KEY: usize = 91;
-
-// The bytes of a pair, and where its preimage begins.
-pub const PAIR: usize = 64;
-
-pub const PAIR_PREIMAGE: usize = 32;
-
-// A tracked TLC has this many bytes beside its hash of h bytes. Behind a payment hash of 32 come the algorithm and the record.
-pub const TRACKED_FIXED: usize = 98;
-
-pub const TRACKED_ALGORITHM: usize = 32;
-
-pub const TRACKED_RECORD: usize = 33;
-
-// A state has 254 TLCs at most where one of them is chosen: place 254 would be the byte of a share.
-pub const MOST_TLCS: usize = 254;
-
 // The scalars of a request. Its lists come beside them.
 pub struct Scalars {
     pub h: usize,
@@ -108,7 +79,7 @@ pub enum Step {
 }
 
 // What is decided: the choice, its amount, key and delay; the lengths of the three parts of the output; place and length of
-// the chosen TLC's record in the witness, or in the tracked list.
+// the chosen TLC's record in the witness, or in the tracked list; whether it is the last settlement.
 pub struct Decision {
     pub choice: Choice,
     pub amount: Amount,
@@ -119,6 +90,7 @@ pub struct Decision {
     pub args_len: usize,
     pub place: usize,
     pub len: usize,
+    pub last: bool,
 }
 
 pub enum ChoiceAnswer {

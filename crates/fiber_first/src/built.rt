@@ -4,23 +4,23 @@ use fiber_bytes::le64;
 use fiber_bytes::part_of;
 use fiber_bytes::put;
 use fiber_bytes::put_le64;
-use fiber_choice::kinds::SETTLEMENT_AMOUNT;
-use fiber_choice::kinds::SETTLEMENT_EXPIRY;
-use fiber_choice::kinds::SETTLEMENT_HASH;
-use fiber_choice::kinds::SETTLEMENT_LOCAL_KEY;
-use fiber_choice::kinds::SETTLEMENT_REMOTE_KEY;
-use fiber_choice::kinds::SETTLEMENT_TLC;
-use fiber_choice::kinds::TRACKED_FIXED;
-use fiber_choice::kinds::TRACKED_RECORD;
-use fiber_types::key::PUBLIC_KEY;
 use fiber_types::key::key_hash;
+use fiber_types::layout::KEY;
+use fiber_types::layout::RECORD_FIXED;
+use fiber_types::layout::SETTLEMENT_TLC;
+use fiber_types::layout::SETTLEMENT_TLC_AMOUNT;
+use fiber_types::layout::SETTLEMENT_TLC_EXPIRY;
+use fiber_types::layout::SETTLEMENT_TLC_HASH;
+use fiber_types::layout::SETTLEMENT_TLC_LOCAL_KEY;
+use fiber_types::layout::SETTLEMENT_TLC_REMOTE_KEY;
+use fiber_types::layout::SHARE_AMOUNT;
+use fiber_types::layout::TRACKED_FIXED;
+use fiber_types::layout::TRACKED_RECORD;
 use fiber_types::tlc;
 use fiber_types::tlc::Amount;
-use fiber_types::tlc::TLC_FIXED;
 use fiber_types::tlc::Tlc;
 use fiber_types::tlc::amount_at;
 use fiber_witness::state::put_record;
-use fiber_witness::witness::SHARE_AMOUNT;
 ghost use mathlib.Core.Path.{_≡_};
 ghost use mathlib.Core.Bool.{true, cond};
 ghost use mathlib.Core.List.{flatten};
@@ -43,17 +43,17 @@ fn put_first(h: usize, for_remote: bool, tlc: &[u8], buffer: &mut [u8])
 {
     let numbers = Tlc {
         kind: tlc[1] * 2 + tlc[0],
-        amount: amount_at(tlc, SETTLEMENT_AMOUNT),
-        expiry: 0x4000_0000_0000_0000 + le64(tlc, SETTLEMENT_EXPIRY) / 1000,
+        amount: amount_at(tlc, SETTLEMENT_TLC_AMOUNT),
+        expiry: 0x4000_0000_0000_0000 + le64(tlc, SETTLEMENT_TLC_EXPIRY) / 1000,
     };
-    let local = key_hash(part_of(tlc, SETTLEMENT_LOCAL_KEY, PUBLIC_KEY));
-    let remote = key_hash(part_of(tlc, SETTLEMENT_REMOTE_KEY, PUBLIC_KEY));
+    let local = key_hash(part_of(tlc, SETTLEMENT_TLC_LOCAL_KEY, KEY));
+    let remote = key_hash(part_of(tlc, SETTLEMENT_TLC_REMOTE_KEY, KEY));
     let local_hash = local.bytes;
     let remote_hash = remote.bytes;
     if for_remote {
         tlc::write(
             numbers,
-            part_of(tlc, SETTLEMENT_HASH, h),
+            part_of(tlc, SETTLEMENT_TLC_HASH, h),
             &remote_hash,
             &local_hash,
             buffer,
@@ -61,7 +61,7 @@ fn put_first(h: usize, for_remote: bool, tlc: &[u8], buffer: &mut [u8])
     } else {
         tlc::write(
             numbers,
-            part_of(tlc, SETTLEMENT_HASH, h),
+            part_of(tlc, SETTLEMENT_TLC_HASH, h),
             &local_hash,
             &remote_hash,
             buffer,
@@ -101,8 +101,8 @@ pub fn same_as_tracked(h: usize, for_remote: bool, tlcs: &[u8], tracked: &[u8]) 
             &mut record,
         );
         if !same(
-            part_of(&record, 0, TLC_FIXED + h),
-            part_of(tracked, at, TLC_FIXED + h),
+            part_of(&record, 0, RECORD_FIXED + h),
+            part_of(tracked, at, RECORD_FIXED + h),
         ) {
             return false;
         }
@@ -148,7 +148,7 @@ pub fn put_first_tlcs(h: usize, for_remote: bool, tlcs: &[u8], out: &mut [u8])
     requires { ⌜ 1 + length (flatten (S.firstRecords h «for_remote» (entries settlementLen (now tlcs)))) ≤ length (now out) ⌝ }
     ensures { λ _. ⌜ now (out .exit) ≡ sets (now (out .entry)) 1 (flatten (S.firstRecords h «for_remote» (entries settlementLen (now (tlcs .entry))))) ⌝ }
 {
-    let size = TLC_FIXED + h;
+    let size = RECORD_FIXED + h;
     let n = tlcs.len() / SETTLEMENT_TLC;
     let mut from = 0;
     let mut at = 1;

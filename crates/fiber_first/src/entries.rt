@@ -1,7 +1,7 @@
 // The lists that the host lends, one entry behind the other. Row 14 looks at all of them.
-use fiber_choice::kinds::SETTLEMENT_TLC;
-use fiber_choice::kinds::TRACKED_FIXED;
-use fiber_types::key::PUBLIC_KEY;
+use fiber_types::layout::KEY;
+use fiber_types::layout::SETTLEMENT_TLC;
+use fiber_types::layout::TRACKED_FIXED;
 ghost use mathlib.Core.Path.{_≡_};
 ghost use Prim.Native.Nat.{_+_, _≤_};
 ghost use Rattle.fiber_choice.specs.Entries as S;
@@ -71,10 +71,10 @@ pub fn valid_data(tlcs: &[u8], local_key: &[u8], remote_key: &[u8]) -> bool
     if tlcs.len() % SETTLEMENT_TLC != 0 {
         return false;
     }
-    if local_key.len() != PUBLIC_KEY {
+    if local_key.len() != KEY {
         return false;
     }
-    if remote_key.len() != PUBLIC_KEY {
+    if remote_key.len() != KEY {
         return false;
     }
     valid_settlements(tlcs)

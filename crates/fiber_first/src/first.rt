@@ -5,15 +5,15 @@ use crate::built::share_by;
 use crate::entries::valid_data;
 use crate::entries::valid_settlements;
 use fiber_bytes::put;
-use fiber_choice::kinds::SETTLEMENT_TLC;
 use fiber_types::answer::Written;
+use fiber_types::layout::RECORD_FIXED;
+use fiber_types::layout::SETTLEMENT_TLC;
+use fiber_types::layout::SHARE_LEN;
+use fiber_types::layout::SHARES;
+use fiber_types::layout::STATE_FIXED;
 use fiber_types::tlc::Amount;
-use fiber_types::tlc::TLC_FIXED;
 use fiber_types::tlc::valid_hash_len;
 use fiber_witness::state::put_record;
-use fiber_witness::witness::SHARE;
-use fiber_witness::witness::SHARES;
-use fiber_witness::witness::STATE_FIXED;
 ghost use Rattle.fiber_types.specs.Records.{Gives};
 ghost use Rattle.fiber_choice.specs.FirstRecords as S;
 
@@ -39,7 +39,7 @@ pub fn settlement_tlc_witness(h: usize, for_remote: bool, tlc: &[u8], out: &mut 
             place: 0,
         };
     }
-    let size = TLC_FIXED + h;
+    let size = RECORD_FIXED + h;
     if out.len() < size {
         return Written::Refused {
             number: 13,
@@ -90,7 +90,7 @@ pub fn settlement_data_witness(
             place: 0,
         };
     }
-    let size = STATE_FIXED + n * (TLC_FIXED + h);
+    let size = STATE_FIXED + n * (RECORD_FIXED + h);
     if out.len() < size {
         return Written::Refused {
             number: 13,
@@ -114,6 +114,6 @@ pub fn settlement_data_witness(
     out[0] = n as u8;
     put_first_tlcs(h, for_remote, tlcs, out);
     put(out, size - SHARES, &remote);
-    put(out, size - SHARE, &local);
+    put(out, size - SHARE_LEN, &local);
     Written::Bytes(size)
 }

@@ -6,30 +6,30 @@ use fiber_choice::kinds::ChoiceAnswer;
 use fiber_choice::kinds::Decision;
 use fiber_choice::kinds::Delay;
 use fiber_choice::kinds::Key;
-use fiber_choice::kinds::PAIR;
-use fiber_choice::kinds::PAIR_PREIMAGE;
 use fiber_choice::kinds::Plan;
 use fiber_choice::kinds::Side;
-use fiber_choice::kinds::TRACKED_FIXED;
-use fiber_choice::kinds::TRACKED_RECORD;
 use fiber_choice::kinds::Way;
 use fiber_types::blake2b::ckb_hash;
+use fiber_types::layout::PAIR;
+use fiber_types::layout::PAIR_PREIMAGE;
+use fiber_types::layout::RECORD_FIXED;
+use fiber_types::layout::SHARE_AMOUNT;
+use fiber_types::layout::STATE_FIXED;
+use fiber_types::layout::TRACKED_FIXED;
+use fiber_types::layout::TRACKED_RECORD;
+use fiber_types::layout::UNLOCK;
+use fiber_types::layout::UNLOCK_LOCAL;
+use fiber_types::layout::UNLOCK_REMOTE;
+use fiber_types::layout::UNLOCK_WITH_PREIMAGE;
 use fiber_types::tlc;
 use fiber_types::tlc::Amount;
-use fiber_types::tlc::TLC_FIXED;
 use fiber_types::tlc::TlcRead;
 use fiber_types::tlc::amount_at;
 use fiber_types::unlock;
-use fiber_types::unlock::LOCAL_SHARE;
-use fiber_types::unlock::REMOTE_SHARE;
-use fiber_types::unlock::UNLOCK;
-use fiber_types::unlock::UNLOCK_WITH_PREIMAGE;
 use fiber_types::unlock::Unlock;
 use fiber_witness::state::one_mark;
 use fiber_witness::state::put_state;
 use fiber_witness::unlocks::no_marks;
-use fiber_witness::witness::SHARE_AMOUNT;
-use fiber_witness::witness::STATE_FIXED;
 ghost use mathlib.Core.Path.{_≡_};
 ghost use mathlib.Core.List.{[], _∷_, _++_, flatten};
 ghost use mathlib.Core.Bool.{true, false};
@@ -49,7 +49,7 @@ fn plan_of(choice: Choice, n: usize) -> Plan
     match choice {
         Choice::Share(side) => match side {
             Side::Remote => Plan {
-                byte: REMOTE_SHARE,
+                byte: UNLOCK_REMOTE,
                 flag: false,
                 pair_place: 0,
                 skip: n,
@@ -57,7 +57,7 @@ fn plan_of(choice: Choice, n: usize) -> Plan
                 local: false,
             },
             Side::Local => Plan {
-                byte: LOCAL_SHARE,
+                byte: UNLOCK_LOCAL,
                 flag: false,
                 pair_place: 0,
                 skip: n,
@@ -232,7 +232,7 @@ fn record_size(h: usize, choice: Choice) -> usize
 {
     match choice {
         Choice::Share(_) => 0,
-        Choice::Tlc { place: _, way: _ } => TLC_FIXED + h,
+        Choice::Tlc { place: _, way: _ } => RECORD_FIXED + h,
     }
 }
 
@@ -244,6 +244,7 @@ pub fn write_output(
     preimages: &[u8],
     remote: [u8; 36],
     local: [u8; 36],
+    last: bool,
     choice: Choice,
     key: Key,
     delay: Delay,
@@ -254,13 +255,13 @@ pub fn write_output(
     requires { ⌜ Within (length (entries (trackedLen h) (now tracked))) (length (entries pairLen (now preimages))) choice ⌝ }
     ensures { λ r. ⌜ Gives
         (S.handedOut h (now (args .entry)) (entries (trackedLen h) (now (tracked .entry))) (entries pairLen (now (preimages .entry)))
-        remote local choice key delay place (now (out .entry)))
+        remote local last choice key delay place (now (out .entry)))
         r (now (out .exit)) ⌝ }
 {
     let n = tracked.len() / (TRACKED_FIXED + h);
     let p = plan_of(choice, n);
     let unlock_len = if p.flag { UNLOCK_WITH_PREIMAGE } else { UNLOCK };
-    let state_len = STATE_FIXED + n * (TLC_FIXED + h);
+    let state_len = STATE_FIXED + n * (RECORD_FIXED + h);
     let args_len = if args.len() < 57 { 57 } else { args.len() };
     let size = unlock_len + state_len + args_len;
     if out.len() < size {
@@ -281,5 +282,6 @@ pub fn write_output(
         args_len,
         place,
         len: record_size(h, choice),
+        last,
     })
 }

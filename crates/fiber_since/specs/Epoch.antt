@@ -1,4 +1,4 @@
--- Epochs: fields, scaling and the due test; document 01, modules 2 to 4, with the numbers of its table.
+-- Epochs: fields, scaling and the due test; docs/SCOPE.md, modules 2 to 4, with the numbers of its table.
 use Prim.Native.Nat.{ℕ, _+_, _*_, _/_, _%_, _^_}
 use mathlib.Core.Bool.{Bool, cond, _&&_, _||_}
 use lib.Dec.{eqb, ltb, leb}

@@ -1,4 +1,4 @@
--- Since values after CKB RFC 0017; document 01, "Since and epochs".
+-- Since values after CKB RFC 0017; docs/SCOPE.md, "Since and epochs".
 use Prim.Native.Nat.{ℕ, _*_, _/_, _%_, _^_}
 use mathlib.Core.Bool.{cond}
 use lib.Dec.{eqb, ltb}

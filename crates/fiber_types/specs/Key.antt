@@ -1,4 +1,4 @@
--- Key hashes; document 01, "Hashes".
+-- Key hashes; docs/SCOPE.md, "Hashes".
 use Prim.Native.Nat.{ℕ}
 use mathlib.Core.Bool.{cond}
 use mathlib.Core.List.{List}

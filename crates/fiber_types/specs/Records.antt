@@ -1,4 +1,4 @@
--- TLC records and unlocks; document 01, "Records", with the numbers of its table.
+-- TLC records and unlocks; docs/SCOPE.md, "Records", with the numbers of its table.
 use Prim.Native.Nat.{ℕ, _+_, _-_, _*_, _%_, _^_}
 use mathlib.Core.Path.{_≡_}
 use mathlib.Core.Bool.{Bool, cond, _&&_, _||_}

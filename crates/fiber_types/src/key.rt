@@ -1,11 +1,9 @@
 // Key hashes.
+use crate::layout::KEY;
 use fiber_blake2b::blake2b::ckb_hash;
 use fiber_bytes::put;
 ghost use mathlib.Core.Path.{_≡_};
 ghost use Rattle.fiber_types.specs.Key as S;
-
-// The bytes of a public key.
-pub const PUBLIC_KEY: usize = 33;
 
 pub enum KeyAnswer {
     Taken,
@@ -23,7 +21,7 @@ pub struct KeyHash {
 pub fn key_hash(key: &[u8]) -> KeyHash
     ensures { λ r. ⌜ r ≡ S.keyHash (now (key .entry)) ⌝ }
 {
-    if key.len() != PUBLIC_KEY {
+    if key.len() != KEY {
         return KeyHash {
             answer: KeyAnswer::Refused {
                 number: 14,

@@ -3,6 +3,7 @@
 // fiber_bytes, fiber_since, fiber_blake2b and fiber_sha256.
 pub mod answer;
 pub mod key;
+pub mod layout;
 pub mod tlc;
 pub mod unlock;
 

@@ -1,5 +1,6 @@
 // TLC records: type 1, amount 16, hash h, remote key hash 20, local key hash 20, expiry 8.
 use crate::answer::Written;
+use crate::layout::RECORD_FIXED;
 use fiber_bytes::le64;
 use fiber_bytes::part_of;
 use fiber_bytes::put;
@@ -10,9 +11,6 @@ ghost use Prim.Native.Nat.{_+_, _≤_};
 ghost use lib.ListN.{length};
 ghost use lib.Seq.{sets};
 ghost use Rattle.fiber_types.specs.Records as S;
-
-// A record has this many bytes beside its hash.
-pub const TLC_FIXED: usize = 65;
 
 // An amount of 128 bits as two halves: low + 2^64 high.
 pub struct Amount {
@@ -87,7 +85,7 @@ pub fn read(h: usize, s: &[u8], at: usize) -> TlcRead
             place: at,
         };
     }
-    if s.len() - at < TLC_FIXED + h {
+    if s.len() - at < RECORD_FIXED + h {
         return TlcRead::Refused {
             number: 2,
             place: at,
@@ -167,7 +165,7 @@ pub fn write(t: Tlc, hash: &[u8], remote: &[u8], local: &[u8], out: &mut [u8]) -
             place: 0,
         };
     }
-    let size = TLC_FIXED + hash.len();
+    let size = RECORD_FIXED + hash.len();
     if out.len() < size {
         return Written::Refused {
             number: 13,

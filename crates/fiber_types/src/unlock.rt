@@ -1,21 +1,13 @@
 // Unlocks: byte 1, flag 1, signature 65, and preimage 32 exactly if the flag is 1.
 use crate::answer::Written;
+use crate::layout::UNLOCK;
+use crate::layout::UNLOCK_WITH_PREIMAGE;
 use fiber_bytes::put;
 ghost use mathlib.Core.Path.{_≡_};
 ghost use Prim.Native.Nat.{_+_, _≤_};
 ghost use lib.ListN.{length};
 ghost use lib.Seq.{sets};
 ghost use Rattle.fiber_types.specs.Records as S;
-
-// An unlock without a preimage, and with one.
-pub const UNLOCK: usize = 67;
-
-pub const UNLOCK_WITH_PREIMAGE: usize = 99;
-
-// The bytes that unlock a share; any other is the place of a TLC.
-pub const REMOTE_SHARE: usize = 0xfe;
-
-pub const LOCAL_SHARE: usize = 0xff;
 
 // What an unlock says of itself. Its signature and its preimage stay where they are, as parts of a slice.
 pub struct Unlock {

@@ -4,14 +4,10 @@ use fiber_choice::kinds::Choice;
 use fiber_choice::kinds::ChoiceAnswer;
 use fiber_choice::kinds::Delay;
 use fiber_choice::kinds::Dues;
-use fiber_choice::kinds::MOST_TLCS;
 use fiber_choice::kinds::Ready;
-use fiber_choice::kinds::SETTLEMENT_TLC;
 use fiber_choice::kinds::Scalars;
 use fiber_choice::kinds::Stage;
 use fiber_choice::kinds::Step;
-use fiber_choice::kinds::TRACKED_FIXED;
-use fiber_choice::kinds::TRACKED_RECORD;
 use fiber_choice::kinds::Way;
 use fiber_first::built::same_as_tracked;
 use fiber_first::built::share_by;
@@ -21,6 +17,10 @@ use fiber_types::epoch::Epoch;
 use fiber_types::epoch::Scaled;
 use fiber_types::epoch::is_due;
 use fiber_types::epoch::mul;
+use fiber_types::layout::MOST_TLCS;
+use fiber_types::layout::SETTLEMENT_TLC;
+use fiber_types::layout::TRACKED_FIXED;
+use fiber_types::layout::TRACKED_RECORD;
 ghost use mathlib.Core.Path.{_≡_};
 ghost use mathlib.Core.Bool.{true};
 ghost use mathlib.Core.List.{List};
@@ -159,6 +159,7 @@ fn first_thirds(
         preimages,
         remote,
         local,
+        false,
         choice,
         key,
         delay,

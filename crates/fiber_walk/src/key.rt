@@ -1,12 +1,12 @@
 // The key of a TLC: the settlement TLC whose local key signs for it.
 use fiber_bytes::part_of;
 use fiber_choice::kinds::Found;
-use fiber_choice::kinds::SETTLEMENT_HASH;
-use fiber_choice::kinds::SETTLEMENT_LOCAL_KEY;
-use fiber_choice::kinds::SETTLEMENT_TLC;
 use fiber_first::entries::same;
-use fiber_types::key::PUBLIC_KEY;
 use fiber_types::key::key_hash;
+use fiber_types::layout::KEY;
+use fiber_types::layout::SETTLEMENT_TLC;
+use fiber_types::layout::SETTLEMENT_TLC_HASH;
+use fiber_types::layout::SETTLEMENT_TLC_LOCAL_KEY;
 use fiber_types::tlc;
 ghost use mathlib.Core.Path.{_≡_};
 ghost use Prim.Native.Nat.{_≤_};
@@ -19,7 +19,7 @@ ghost use Rattle.fiber_choice.specs.Verdicts as S;
 fn signs_for(tlc: &[u8], ours: &[u8]) -> bool
     ensures { λ r. ⌜ r ≡ same (hashOf (localKey (now (tlc .entry)))) (now (ours .entry)) ⌝ }
 {
-    let key = key_hash(part_of(tlc, SETTLEMENT_LOCAL_KEY, PUBLIC_KEY));
+    let key = key_hash(part_of(tlc, SETTLEMENT_TLC_LOCAL_KEY, KEY));
     let bytes = key.bytes;
     same(&bytes, ours)
 }
@@ -34,7 +34,7 @@ fn find_key(tlcs: &[u8], start: &[u8], ours: &[u8]) -> Found
     let mut at = 0;
     for i in 0..n {
         let tlc = &tlcs[at..at + SETTLEMENT_TLC];
-        if same(part_of(tlc, SETTLEMENT_HASH, start.len()), start) {
+        if same(part_of(tlc, SETTLEMENT_TLC_HASH, start.len()), start) {
             if signs_for(tlc, ours) {
                 return Found::At(i);
             }

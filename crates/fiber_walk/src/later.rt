@@ -5,23 +5,23 @@ use fiber_bytes::part_of;
 use fiber_choice::kinds::Choice;
 use fiber_choice::kinds::ChoiceAnswer;
 use fiber_choice::kinds::Delay;
-use fiber_choice::kinds::MOST_TLCS;
 use fiber_choice::kinds::Ready;
 use fiber_choice::kinds::Scalars;
 use fiber_choice::kinds::Stage;
 use fiber_choice::kinds::Step;
-use fiber_choice::kinds::TRACKED_FIXED;
-use fiber_choice::kinds::TRACKED_RECORD;
 use fiber_first::entries::same;
 use fiber_output::output::write_output;
 use fiber_types::key::key_hash;
-use fiber_types::tlc::TLC_FIXED;
+use fiber_types::layout::MOST_TLCS;
+use fiber_types::layout::RECORD_FIXED;
+use fiber_types::layout::SHARE_LEN;
+use fiber_types::layout::TRACKED_FIXED;
+use fiber_types::layout::TRACKED_RECORD;
 use fiber_witness::state::share_left;
 use fiber_witness::unlocks::UnlocksAnswer;
 use fiber_witness::unlocks::count_standing;
 use fiber_witness::unlocks::take_unlocks;
 use fiber_witness::witness;
-use fiber_witness::witness::SHARE;
 use fiber_witness::witness::WitnessRead;
 ghost use mathlib.Core.Path.{_≡_};
 ghost use mathlib.Core.Bool.{true};
@@ -53,14 +53,14 @@ fn same_standing(h: usize, w: &[u8], n: usize, marks: [bool; 256], k: usize, tra
     for i in 0..n {
         if !marks[i] {
             if !same(
-                &w[from..from + TLC_FIXED + h],
-                part_of(tracked, at, TLC_FIXED + h),
+                &w[from..from + RECORD_FIXED + h],
+                part_of(tracked, at, RECORD_FIXED + h),
             ) {
                 return false;
             }
             at += size;
         }
-        from += TLC_FIXED + h;
+        from += RECORD_FIXED + h;
     }
     true
 }
@@ -89,7 +89,7 @@ fn later_place(h: usize, marks: [bool; 256], n: usize, choice: Choice) -> usize
 {
     match choice {
         Choice::Share(_) => 0,
-        Choice::Tlc { place, way: _ } => 2 + first_of(marks, n, place) * (TLC_FIXED + h),
+        Choice::Tlc { place, way: _ } => 2 + first_of(marks, n, place) * (RECORD_FIXED + h),
     }
 }
 
@@ -130,20 +130,21 @@ fn later_ready(
     Ready::Yes
 }
 
-// Our share where the other side has taken its own, TLCs not looked at; else the walk.
-fn later_choice(
-    scalars: Scalars,
-    tlcs: &[u8],
-    preimages: &[u8],
-    tracked: &[u8],
-    other: [u8; 36],
-) -> Step
-    requires { ⌜ (validHashLen (scalars .h) ≡ true) × (length (entries (trackedLen (scalars .h)) (now tracked)) ≤ 254) ⌝ }
-    ensures { λ r. ⌜ ((args localKey remoteKey : List ℕ) → r ≡ S.laterChoice
-        (requestOf scalars args (now (tlcs .entry)) localKey remoteKey (now (tracked .entry)) (now (preimages .entry))) other) ⌝ }
+// Whether it is the last settlement: the other slot's key hash is zeros.
+fn is_last(other: [u8; 36]) -> bool
+    ensures { λ r. ⌜ r ≡ S.isLast other ⌝ }
 {
     let zeros = [0u8; 20];
-    if same(part_of(&other, 0, 20), &zeros) {
+    same(part_of(&other, 0, 20), &zeros)
+}
+
+// Our share in the last settlement, TLCs not looked at; else the walk.
+fn later_choice(scalars: Scalars, tlcs: &[u8], preimages: &[u8], tracked: &[u8], last: bool) -> Step
+    requires { ⌜ (validHashLen (scalars .h) ≡ true) × (length (entries (trackedLen (scalars .h)) (now tracked)) ≤ 254) ⌝ }
+    ensures { λ r. ⌜ ((args localKey remoteKey : List ℕ) → r ≡ S.laterChoice
+        (requestOf scalars args (now (tlcs .entry)) localKey remoteKey (now (tracked .entry)) (now (preimages .entry))) last) ⌝ }
+{
+    if last {
         return our_share(scalars.for_remote);
     }
     walked(
@@ -183,10 +184,11 @@ fn later_state(
 {
     let ours = if scalars.for_remote { local } else { remote };
     let other = if scalars.for_remote { remote } else { local };
+    let last = is_last(other);
     match later_ready(scalars, local_key, tracked, w, n, marks, ours) {
         Ready::Refused(number) => ChoiceAnswer::Refused { number, place: 0 },
         Ready::Wait(number) => ChoiceAnswer::Wait { number, place: 0 },
-        Ready::Yes => match later_choice(scalars, tlcs, preimages, tracked, other) {
+        Ready::Yes => match later_choice(scalars, tlcs, preimages, tracked, last) {
             Step::Pending(_) => ChoiceAnswer::Wait {
                 number: 22,
                 place: 0,
@@ -200,6 +202,7 @@ fn later_state(
                     preimages,
                     remote,
                     local,
+                    last,
                     choice,
                     key,
                     Delay::None,
@@ -243,7 +246,7 @@ pub fn choose_later(
             let answer = j.answer;
             let marks = j.marks;
             let remote = share_left(w, share_place, j.remote);
-            let local = share_left(w, share_place + SHARE, j.local);
+            let local = share_left(w, share_place + SHARE_LEN, j.local);
             match answer {
                 UnlocksAnswer::Refused { number, place } => ChoiceAnswer::Refused { number, place },
                 UnlocksAnswer::Fine => later_state(

@@ -1,11 +1,11 @@
 // Stored preimages: a flat slice of pairs of 64 bytes, hash and preimage.
 use fiber_bytes::part_of;
 use fiber_choice::kinds::Found;
-use fiber_choice::kinds::PAIR;
-use fiber_choice::kinds::PAIR_PREIMAGE;
-use fiber_choice::kinds::TRACKED_ALGORITHM;
 use fiber_first::entries::same;
 use fiber_types::blake2b::ckb_hash;
+use fiber_types::layout::PAIR;
+use fiber_types::layout::PAIR_PREIMAGE;
+use fiber_types::layout::TRACKED_ALGORITHM;
 use fiber_types::sha256::sha256;
 ghost use mathlib.Core.Path.{_≡_};
 ghost use Prim.Native.Nat.{_+_, _*_, _≤_};

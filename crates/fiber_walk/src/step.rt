@@ -11,16 +11,16 @@ use fiber_choice::kinds::Choice;
 use fiber_choice::kinds::Dues;
 use fiber_choice::kinds::Found;
 use fiber_choice::kinds::Key;
-use fiber_choice::kinds::SETTLEMENT_EXPIRY;
-use fiber_choice::kinds::SETTLEMENT_TLC;
 use fiber_choice::kinds::Stage;
 use fiber_choice::kinds::Step;
-use fiber_choice::kinds::TRACKED_RECORD;
 use fiber_choice::kinds::Way;
+use fiber_types::layout::RECORD_FIXED;
+use fiber_types::layout::SETTLEMENT_TLC;
+use fiber_types::layout::SETTLEMENT_TLC_EXPIRY;
+use fiber_types::layout::TRACKED_RECORD;
 use fiber_types::since::Expiry;
 use fiber_types::since::absolute_expiry;
 use fiber_types::tlc;
-use fiber_types::tlc::TLC_FIXED;
 use fiber_types::tlc::TlcRead;
 ghost use mathlib.Core.Path.{_≡_};
 ghost use mathlib.Core.Bool.{true, false};
@@ -116,7 +116,7 @@ fn later_preimage(
         (countingPair (entries pairLen (now (preimages .entry))) (now («tracked_tlc» .entry)))
         (S.keyOf h «for_remote» (entries settlementLen (now (tlcs .entry))) (trackedRecord (now («tracked_tlc» .entry))))) ⌝ }
 {
-    let tlc = part_of(tracked_tlc, TRACKED_RECORD, TLC_FIXED + h);
+    let tlc = part_of(tracked_tlc, TRACKED_RECORD, RECORD_FIXED + h);
     match find_pair(preimages, part_of(tracked_tlc, 0, 32)) {
         Found::At(pair_place) => match key_of(h, for_remote, tlcs, tlc) {
             Found::At(key) => {
@@ -154,7 +154,7 @@ fn later_step(
     ensures { λ r. ⌜ r ≡ W.stepOf time place pending (S.laterVerdict h «for_remote» (entries settlementLen (now (tlcs .entry)))
         (entries pairLen (now (preimages .entry))) (now («tracked_tlc» .entry))) ⌝ }
 {
-    let record = part_of(tracked_tlc, TRACKED_RECORD, TLC_FIXED + h);
+    let record = part_of(tracked_tlc, TRACKED_RECORD, RECORD_FIXED + h);
     let TlcRead::Whole(tlc) = tlc::read(h, record, 0) else {
         return Step::Pending(pending);
     };
@@ -192,7 +192,7 @@ fn first_step(
     ensures { λ r. ⌜ r ≡ W.stepOf time place pending (S.firstVerdict «for_remote» (entries pairLen (now (preimages .entry))) dues
         place (now (tlc .entry)) (now («tracked_tlc» .entry))) ⌝ }
 {
-    let ms = le64(tlc, SETTLEMENT_EXPIRY);
+    let ms = le64(tlc, SETTLEMENT_TLC_EXPIRY);
     if timeout_kind(for_remote, tlc[0] == 0) {
         if dues.two_thirds {
             return timeout_step(time, ms, place, place, pending);

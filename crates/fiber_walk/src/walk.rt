@@ -3,7 +3,7 @@ use crate::slot::our_share;
 use crate::step::step;
 use fiber_choice::kinds::Stage;
 use fiber_choice::kinds::Step;
-use fiber_choice::kinds::TRACKED_FIXED;
+use fiber_types::layout::TRACKED_FIXED;
 ghost use mathlib.Core.Path.{_≡_};
 ghost use mathlib.Core.Bool.{true};
 ghost use Prim.Native.Nat.{_+_, _≤_};

@@ -1,4 +1,4 @@
--- The unlocks behind a state as a list, read by the layout of document 01's "Records" alone. The update reads them by their places in a
+-- The unlocks behind a state as a list, read by the layout of docs/SCOPE.md, "Records", alone. The update reads them by their places in a
 -- witness (Witness.antt), and shares nothing with this reading; proofs/UnlocksLaws.antt ties the two.
 use Prim.Native.Nat.{ℕ, zero, suc}
 use mathlib.Core.Bool.{cond}

@@ -1,4 +1,4 @@
--- What an update answers and writes; document 01, "Update", with rows 5, 6 and 13 of its table.
+-- What an update answers and writes; docs/SCOPE.md, "Update", with rows 5, 6 and 13 of its table.
 use Prim.Native.Nat.{ℕ, _+_}
 use mathlib.Core.Bool.{Bool, true, false, cond}
 use mathlib.Core.List.{List, [], _∷_}

@@ -1,4 +1,4 @@
--- What reading a settlement witness finds; document 01, "Witness", with rows 14 and 1 to 4 of its table.
+-- What reading a settlement witness finds; docs/SCOPE.md, "Witness", with rows 14 and 1 to 4 of its table.
 -- Unlock count 1 (never looked at), TLC count n 1, n TLCs, remote share, local share, unlocks to the end.
 use Prim.Native.Nat.{ℕ, zero, suc, _+_}
 use mathlib.Core.Bool.{Bool, false, cond, _||_}

@@ -1,9 +1,9 @@
 // The writer of a state, for the update and for what a choice hands out: the count, the records that are not marked, both shares.
 use crate::unlocks::no_marks;
-use crate::witness::SHARE;
-use crate::witness::SHARES;
 use fiber_bytes::put;
-use fiber_types::tlc::TLC_FIXED;
+use fiber_types::layout::RECORD_FIXED;
+use fiber_types::layout::SHARE_LEN;
+use fiber_types::layout::SHARES;
 ghost use mathlib.Core.Path.{_≡_};
 ghost use mathlib.Core.List.{[], _∷_, flatten};
 ghost use Prim.Native.Nat.{_+_, _*_, _≤_};
@@ -32,7 +32,7 @@ pub fn share_left(w: &[u8], from: usize, unlocked: bool) -> [u8; 36]
 {
     let mut share = [0u8; 36];
     if !unlocked {
-        put(&mut share, 0, &w[from..from + SHARE]);
+        put(&mut share, 0, &w[from..from + SHARE_LEN]);
     }
     share
 }
@@ -62,7 +62,7 @@ fn put_records(
     ensures { λ r. ⌜ r ≡ 1 + length (flatten (unmarked h (now (source .entry)) from stride n marks)) ⌝ }
     ensures { λ _. ⌜ now (out .exit) ≡ sets (now (out .entry)) 1 (flatten (unmarked h (now (source .entry)) from stride n marks)) ⌝ }
 {
-    let size = TLC_FIXED + h;
+    let size = RECORD_FIXED + h;
     let mut place = from;
     let mut at = 1;
     for i in 0..n {
@@ -115,6 +115,6 @@ pub fn put_state(
     out[0] = k as u8;
     let at = put_records(source, from, stride, h, n, marks, out);
     put_share(remote, remote_unlocked, out, at);
-    put_share(local, local_unlocked, out, at + SHARE);
+    put_share(local, local_unlocked, out, at + SHARE_LEN);
     at + SHARES
 }

@@ -1,7 +1,7 @@
 // What the unlocks of a witness do: they are taken in order, before anything is written.
+use fiber_types::layout::UNLOCK_LOCAL;
+use fiber_types::layout::UNLOCK_REMOTE;
 use fiber_types::unlock;
-use fiber_types::unlock::LOCAL_SHARE;
-use fiber_types::unlock::REMOTE_SHARE;
 use fiber_types::unlock::UnlockRead;
 ghost use mathlib.Core.Path.{_≡_};
 ghost use Prim.Native.Nat.{ℕ, _≤_};
@@ -64,9 +64,9 @@ pub fn take_unlocks(w: &[u8], n: usize, first_unlock: usize) -> TakenUnlocks
     let mut at = first_unlock;
     while at < w.len() {
         let b = w[at] as usize;
-        if b == LOCAL_SHARE {
+        if b == UNLOCK_LOCAL {
             local = true;
-        } else if b == REMOTE_SHARE {
+        } else if b == UNLOCK_REMOTE {
             remote = true;
         } else {
             if n <= b {

@@ -1,5 +1,6 @@
 // The reader of a settlement witness: unlock count 1 (never looked at), TLC count n 1, n TLCs, two shares, unlocks to the end.
-use fiber_types::tlc::TLC_FIXED;
+use fiber_types::layout::RECORD_FIXED;
+use fiber_types::layout::SHARES;
 use fiber_types::tlc::valid_hash_len;
 use fiber_types::unlock;
 use fiber_types::unlock::UnlockRead;
@@ -7,18 +8,6 @@ ghost use mathlib.Core.Path.{_≡_};
 ghost use Prim.Native.Nat.{_+_, _≤_};
 ghost use lib.ListN.{length};
 ghost use Rattle.fiber_witness.specs.Witness.{readUnlocks, readTlcs, readWitness};
-
-// A share: key hash 20, amount 16.
-pub const SHARE: usize = 36;
-
-// Its amount begins behind its key hash.
-pub const SHARE_AMOUNT: usize = 20;
-
-// Both shares.
-pub const SHARES: usize = 72;
-
-// A state's bytes beside its TLCs: the count and both shares.
-pub const STATE_FIXED: usize = 73;
 
 pub enum WitnessRead {
     // So many TLCs and unlocks; the places of the share part and of the first unlock.
@@ -67,7 +56,7 @@ fn read_tlcs(h: usize, w: &[u8], n: usize) -> WitnessRead
     requires { ⌜ (2 ≤ length (now w)) × ((h ≤ 32) × (n ≤ 255)) ⌝ }
     ensures { λ r. ⌜ r ≡ readTlcs n h (now (w .entry)) n 2 ⌝ }
 {
-    let size = TLC_FIXED + h;
+    let size = RECORD_FIXED + h;
     let share_place = 2 + n * size;
     if w.len() < share_place {
         let whole = (w.len() - 2) / size;

@@ -4,8 +4,8 @@
 use fiber_bytes::part_of;
 use fiber_bytes::put;
 use fiber_choice::kinds::Found;
-use fiber_choice::kinds::PAIR;
-use fiber_choice::kinds::TRACKED_FIXED;
+use fiber_types::layout::PAIR;
+use fiber_types::layout::TRACKED_FIXED;
 use fiber_types::tlc::valid_hash_len;
 use fiber_walk::preimage;
 use libc::STDOUT_FILENO;

@@ -1,4 +1,4 @@
--- Stored preimages as a list of structs; document 01, "What the host lends".
+-- Stored preimages as a list of structs; docs/SCOPE.md, "What the host lends".
 use Prim.Native.Nat.{ℕ}
 use mathlib.Core.List.{List, _++_, flatMap}
 use Rattle.preimage_list.specs.declared.Preimage.{Preimage}

@@ -2,7 +2,7 @@
 //
 // The list's top says how it was made and what a line holds. Each case is one call of an export of the C interface, and
 // status, answer buffer and output buffer are compared whole, so that a byte written where none belongs is seen.
-// A program; uses the two C interfaces, fiber_bytes, fiber_first, test_lines, and the toolchain's libraries for files.
+// A program; uses the C interface, fiber_bytes, fiber_first, test_lines, and the toolchain's libraries for files.
 use fiber_bytes::le64;
 use fiber_bytes::part_of;
 use fiber_bytes::put;
@@ -10,7 +10,13 @@ use fiber_bytes::put_le64;
 use fiber_first::entries::same;
 use libc::STDOUT_FILENO;
 use settlement_c::choose::fiber_settlement_choose;
-use settlement_c::first::fiber_test_data_witness;
+use settlement_c::first::fiber_settlement_first_state;
+use settlement_c::lower::fiber_settlement_ckb_hash;
+use settlement_c::lower::fiber_settlement_expiry;
+use settlement_c::lower::fiber_settlement_is_due;
+use settlement_c::lower::fiber_settlement_key_hash;
+use settlement_c::lower::fiber_settlement_scale;
+use settlement_c::lower::fiber_settlement_sha256;
 use settlement_c::settlement::fiber_settlement_read;
 use settlement_c::settlement::fiber_settlement_update;
 use std::num::wrapping_add_u64;
@@ -19,12 +25,6 @@ use std::num::wrapping_sub_u64;
 use test_lines::find;
 use test_lines::number;
 use test_lines::unhex;
-use types_c::tests::fiber_test_absolute_expiry;
-use types_c::tests::fiber_test_ckb_hash;
-use types_c::tests::fiber_test_is_due;
-use types_c::tests::fiber_test_key_hash;
-use types_c::tests::fiber_test_mul;
-use types_c::tests::fiber_test_sha256;
 ghost use mathlib.Core.Path.{_≡_};
 ghost use lib.ListN.{length};
 
@@ -37,7 +37,7 @@ const STATUS: usize = 2048;
 const ANSWER: usize = 2056;
 
 // The output buffer.
-const OUTPUT: usize = 2208;
+const OUTPUT: usize = 2216;
 
 // Where the next field of a line goes, and where the bytes of the next input do; behind '=' the latter is 0.
 struct Row {
@@ -121,10 +121,10 @@ fn text(b: &[u8], at: usize) -> &[u8] {
 fn digest(kind: u8, message: &[u8]) -> [u8; 32] {
     let mut d = [0; 32];
     if kind == b'c' {
-        fiber_test_ckb_hash(message, &mut d);
+        fiber_settlement_ckb_hash(message, &mut d);
         return d;
     }
-    fiber_test_sha256(message, &mut d);
+    fiber_settlement_sha256(message, &mut d);
     d
 }
 
@@ -134,11 +134,16 @@ fn hash(kind: u8, message: &[u8], out: &mut [u8]) -> u64 {
     0
 }
 
+// A flag as it is told: a byte.
+fn flag(b: &[u8], at: usize) -> u8 {
+    (le64(b, at) % 256) as u8
+}
+
 // The call for a first state, and below it the one for a choice: each input from its place.
 fn first(b: &[u8], out: &mut [u8], answer: &mut [u8]) -> u64 {
-    fiber_test_data_witness(
+    fiber_settlement_first_state(
         le64(b, 8),
-        le64(b, 16) == 1,
+        flag(b, 16),
         le64(b, 24),
         le64(b, 32),
         le64(b, 40),
@@ -154,8 +159,8 @@ fn first(b: &[u8], out: &mut [u8], answer: &mut [u8]) -> u64 {
 fn pick(b: &[u8], out: &mut [u8], answer: &mut [u8]) -> u64 {
     fiber_settlement_choose(
         le64(b, 8),
-        le64(b, 16) == 1,
-        le64(b, 24) == 1,
+        flag(b, 16),
+        flag(b, 24),
         le64(b, 32),
         le64(b, 40),
         le64(b, 48),
@@ -182,7 +187,7 @@ fn pick(b: &[u8], out: &mut [u8], answer: &mut [u8]) -> u64 {
 // A call with numbers alone.
 fn of_numbers(kind: u8, b: &[u8], answer: &mut [u8]) -> u64 {
     match kind {
-        b'm' => fiber_test_mul(
+        b'm' => fiber_settlement_scale(
             le64(b, 8),
             le64(b, 16),
             le64(b, 24),
@@ -190,7 +195,7 @@ fn of_numbers(kind: u8, b: &[u8], answer: &mut [u8]) -> u64 {
             le64(b, 40),
             answer,
         ),
-        b'd' => fiber_test_is_due(
+        b'd' => fiber_settlement_is_due(
             le64(b, 8),
             le64(b, 16),
             le64(b, 24),
@@ -202,7 +207,7 @@ fn of_numbers(kind: u8, b: &[u8], answer: &mut [u8]) -> u64 {
             le64(b, 72),
             answer,
         ),
-        _ => fiber_test_absolute_expiry(le64(b, 8), answer),
+        _ => fiber_settlement_expiry(le64(b, 8), answer),
     }
 }
 
@@ -210,7 +215,7 @@ fn of_numbers(kind: u8, b: &[u8], answer: &mut [u8]) -> u64 {
 fn called(kind: u8, b: &[u8], out: &mut [u8], answer: &mut [u8]) -> u64 {
     match kind {
         b'm' | b'd' | b'e' => of_numbers(kind, b, answer),
-        b'k' => fiber_test_key_hash(text(b, 8), answer),
+        b'k' => fiber_settlement_key_hash(text(b, 8), answer),
         b'c' | b's' => hash(kind, text(b, 8), out),
         b'r' => fiber_settlement_read(le64(b, 8), text(b, 16), answer),
         b'u' => fiber_settlement_update(le64(b, 8), text(b, 16), out, answer),
@@ -221,10 +226,10 @@ fn called(kind: u8, b: &[u8], out: &mut [u8], answer: &mut [u8]) -> u64 {
 }
 
 // Room for a packed line, for an output and for an answer. All bytes are alike, so that one written too many is seen.
-fn bytes_buffer() -> [u8; 3232]
-    ensures { λ r. ⌜ 3232 ≡ length r ⌝ }
+fn bytes_buffer() -> [u8; 3240]
+    ensures { λ r. ⌜ 3240 ≡ length r ⌝ }
 {
-    [165; 3232]
+    [165; 3240]
 }
 
 fn out_buffer() -> [u8; 1024]
@@ -233,10 +238,10 @@ fn out_buffer() -> [u8; 1024]
     [165; 1024]
 }
 
-fn answer_buffer() -> [u8; 152]
-    ensures { λ r. ⌜ 152 ≡ length r ⌝ }
+fn answer_buffer() -> [u8; 160]
+    ensures { λ r. ⌜ 160 ≡ length r ⌝ }
 {
-    [165; 152]
+    [165; 160]
 }
 
 // Whether the port answers as a packed line says: status, answer and output, with what is behind them as it was.

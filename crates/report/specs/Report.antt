@@ -1,4 +1,4 @@
--- The text that the program `settle` prints; document 01, "Edges". Text is a list of character codes.
+-- The text that the program `settle` prints; docs/SCOPE.md, "Edges". Text is a list of character codes.
 use Prim.Native.Nat.{ℕ, zero, suc, _+_, _*_, _/_, _%_}
 use Prim.Native.Char.{code}
 use Prim.Native.String.{String, [] as []ˢ, _∷_ as _∷ˢ_}

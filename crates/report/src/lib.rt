@@ -7,10 +7,10 @@
 use fiber_bytes::part_of;
 use fiber_bytes::put;
 use fiber_types::answer::Written;
-use fiber_types::tlc::TLC_FIXED;
+use fiber_types::layout::RECORD_FIXED;
+use fiber_types::layout::SHARE_AMOUNT;
+use fiber_types::layout::SHARE_LEN;
 use watchtower::update::update;
-use watchtower::witness::SHARE;
-use watchtower::witness::SHARE_AMOUNT;
 ghost use mathlib.Core.Path.{_≡_};
 ghost use mathlib.Core.List.{[], _∷_};
 ghost use Prim.Native.Nat.{_+_, _*_, _≤_, _<_};
@@ -154,19 +154,24 @@ fn put_state_text(out: &mut [u8], h: usize, state: &[u8]) -> usize
     ensures { λ r. ⌜ r ≡ length (S.stateText h (now (state .entry))) ⌝ }
     ensures { λ _. ⌜ now (out .exit) ≡ sets (now (out .entry)) 0 (S.stateText h (now (state .entry))) ⌝ }
 {
-    let size = TLC_FIXED + h;
+    let size = RECORD_FIXED + h;
     let n = state[0] as usize;
     let share_place = 1 + n * size;
     let count = put_word(out, 0, b"tlcs ");
     let behind = put_decimal(out, count, n);
     let first = put_word(out, behind, b"\n");
     let remote = put_tlc_lines(out, first, &state[1..], n, size);
-    let local = put_share_line(out, remote, b"remote ", part_of(state, share_place, SHARE));
+    let local = put_share_line(
+        out,
+        remote,
+        b"remote ",
+        part_of(state, share_place, SHARE_LEN),
+    );
     put_share_line(
         out,
         local,
         b"local ",
-        part_of(state, share_place + SHARE, SHARE),
+        part_of(state, share_place + SHARE_LEN, SHARE_LEN),
     )
 }
 

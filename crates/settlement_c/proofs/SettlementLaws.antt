@@ -11,8 +11,8 @@ use Rattle.fiber_types.specs.declared.answer.Written.{Written}
 use Rattle.fiber_types.specs.declared.answer.Written.the-variants as written·
 use Rattle.fiber_types.specs.Records.{Outcome}
 use Rattle.fiber_witness.specs.Update.{updated}
-use Rattle.types_c.specs.Answers.{Leaves}
-use Rattle.types_c.proofs.AnswersLaws.{refused-by, fields-by, call-short, call-by}
+use Rattle.c_answer.specs.Answers.{Leaves}
+use Rattle.c_answer.proofs.AnswersLaws.{refused-by, fields-by, call-short, call-by}
 use Rattle.settlement_c.specs.Settlement.{OutCall, writtenAnswer, writtenCall, updateCall}
 
 -- a call is what it leaves

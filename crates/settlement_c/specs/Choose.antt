@@ -1,7 +1,8 @@
 -- The choice over the C interface: the answer's size and fields, and the call on the C parameters in their order.
 use Prim.Native.Nat.{ℕ}
-use mathlib.Core.Bool.{Bool}
+use mathlib.Core.Bool.{Bool, cond, _&&_}
 use mathlib.Core.List.{List, [], _∷_, _++_}
+use lib.Dec.{eqb}
 use Rattle.fiber_choice.specs.declared.kinds.Way.the-variants as way·
 use Rattle.fiber_choice.specs.declared.kinds.Choice.{Choice}
 use Rattle.fiber_choice.specs.declared.kinds.Choice.the-variants as choice·
@@ -16,9 +17,9 @@ use Rattle.fiber_bytes.specs.Bytes.{numbers}
 use Rattle.fiber_choice.specs.Request.{requestOf}
 use Rattle.fiber_choice.specs.HandedOut.{choiceByte}
 use Rattle.fiber_choice.specs.Choice.{choiceOf}
-use Rattle.types_c.specs.Answers.{Answer, row, fields, OutCall, call}
+use Rattle.c_answer.specs.Answers.{Answer, row, fields, OutCall, isFlag, flagCall}
 
--- ---- sixteen numbers
+-- ---- seventeen numbers
 
 -- 0 for a share, 1 for a TLC by timeout, 2 for a TLC by a preimage
 unfoldable pub kindNumber : Choice → ℕ
@@ -42,33 +43,38 @@ unfoldable pub delayNumbers : Delay → List ℕ
 delayNumbers delay·.None = 0 ∷ (0 ∷ (0 ∷ (0 ∷ [])))
 delayNumbers (delay·.Epoch e) = 1 ∷ (e .number ∷ (e .index ∷ (e .length ∷ [])))
 
--- choice, byte, amount, key, delay, the record's place and length, the lengths of the three parts of the output, the pair
+-- 1 for true
+unfoldable pub flagNumber : Bool → ℕ
+flagNumber flag = cond flag 1 0
+
+-- choice, byte, amount, key, delay, the record's place and length, the lengths of the three parts of the output, the pair, whether it is the last
+-- settlement
 unfoldable pub decisionNumbers : Decision → List ℕ
 decisionNumbers d =
     (kindNumber (d .choice) ∷ (choiceByte (d .choice) ∷ (d .amount .low ∷ (d .amount .high ∷ []))))
     ++ keyNumbers (d .key)
     ++ delayNumbers (d .delay)
-    ++ (d .place ∷ (d .len ∷ (d .«unlock_len» ∷ (d .«state_len» ∷ (d .«args_len» ∷ (pairNumber (d .choice) ∷ []))))))
+    ++ (d .place ∷ (d .len ∷ (d .«unlock_len» ∷ (d .«state_len» ∷ (d .«args_len» ∷ (pairNumber (d .choice) ∷ (flagNumber (d .last) ∷ [])))))))
 
 -- ---- the call
 
--- 144 bytes: behind the front the sixteen numbers
+-- 152 bytes: behind the front the seventeen numbers
 unfoldable pub chooseAnswer : ChoiceAnswer → Answer
 chooseAnswer (answer·.Chosen d) = fields (numbers (decisionNumbers d))
 chooseAnswer (answer·.Wait number place) = row number place
 chooseAnswer (answer·.Refused number place) = row number place
 
-unfoldable pub chooseCall : ℕ → Bool → Bool → ℕ → ℕ → ℕ → ℕ → ℕ → ℕ → ℕ → ℕ → ℕ → ℕ → ℕ
+unfoldable pub chooseCall : ℕ → ℕ → ℕ → ℕ → ℕ → ℕ → ℕ → ℕ → ℕ → ℕ → ℕ → ℕ → ℕ → ℕ
     → List ℕ → List ℕ → List ℕ → List ℕ → List ℕ → List ℕ → List ℕ → List ℕ → List ℕ → OutCall
 chooseCall h forRemote isLater time headerNumber headerIndex headerLength currentNumber currentIndex currentLength localLow localHigh remoteLow remoteHigh
     args tlcs localKey remoteKey tracked preimages witness out buffer =
     let o = choiceOf (requestOf (record {
       h = h;
-      «for_remote» = forRemote;
+      «for_remote» = eqb forRemote 1;
       time = time;
       header = record { number = headerNumber; index = headerIndex; length = headerLength };
       current = record { number = currentNumber; index = currentIndex; length = currentLength };
       «local_amount» = record { low = localLow; high = localHigh };
       «remote_amount» = record { low = remoteLow; high = remoteHigh };
-    }) args tlcs localKey remoteKey tracked preimages) isLater witness out in
-    call 144 (chooseAnswer (o .answer)) (o .bytes) out buffer
+    }) args tlcs localKey remoteKey tracked preimages) (eqb isLater 1) witness out in
+    flagCall (isFlag forRemote && isFlag isLater) 152 (chooseAnswer (o .answer)) (o .bytes) out buffer

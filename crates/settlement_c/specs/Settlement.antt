@@ -1,7 +1,7 @@
 -- The settlement operations over the C interface: each answer's size and fields, and the call on the C parameters in their order.
 use Prim.Native.Nat.{ℕ}
-use mathlib.Core.Bool.{Bool}
 use mathlib.Core.List.{List, [], _∷_}
+use lib.Dec.{eqb}
 use Rattle.fiber_types.specs.declared.answer.Written.{Written}
 use Rattle.fiber_types.specs.declared.answer.Written.the-variants as written·
 use Rattle.fiber_bytes.specs.Bytes.{numbers}
@@ -11,8 +11,8 @@ use Rattle.fiber_witness.specs.declared.witness.WitnessRead.the-variants as rea
 use Rattle.fiber_witness.specs.Witness.{readWitness}
 use Rattle.fiber_witness.specs.Update.{updated}
 use Rattle.fiber_choice.specs.FirstRecords.{wroteFirstTlc, wroteFirst}
-use Rattle.types_c.specs.Answers.{Answer, row, fields, call}
-pub use Rattle.types_c.specs.Answers.{OutCall}
+use Rattle.c_answer.specs.Answers.{Answer, row, fields, call, isFlag, flagCall}
+pub use Rattle.c_answer.specs.Answers.{OutCall}
 
 -- ---- the reader
 
@@ -37,12 +37,16 @@ writtenCall o out buffer = call 24 (writtenAnswer (o .answer)) (o .bytes) out bu
 unfoldable pub updateCall : ℕ → List ℕ → List ℕ → List ℕ → OutCall
 updateCall h w out buffer = writtenCall (updated h w out) out buffer
 
-unfoldable pub tlcWitnessCall : ℕ → Bool → List ℕ → List ℕ → List ℕ → OutCall
-tlcWitnessCall h forRemote tlc out buffer = writtenCall (wroteFirstTlc h forRemote tlc out) out buffer
+-- a writer's call with the flag for_remote
+unfoldable pub flaggedCall : ℕ → Outcome Written → List ℕ → List ℕ → OutCall
+flaggedCall forRemote o out buffer = flagCall (isFlag forRemote) 24 (writtenAnswer (o .answer)) (o .bytes) out buffer
 
-unfoldable pub dataWitnessCall : ℕ → Bool → ℕ → ℕ → ℕ → ℕ → List ℕ → List ℕ → List ℕ → List ℕ → List ℕ → OutCall
-dataWitnessCall h forRemote localLow localHigh remoteLow remoteHigh tlcs localKey remoteKey out buffer =
-    writtenCall (wroteFirst h forRemote (record {
+unfoldable pub tlcRecordCall : ℕ → ℕ → List ℕ → List ℕ → List ℕ → OutCall
+tlcRecordCall h forRemote tlc out buffer = flaggedCall forRemote (wroteFirstTlc h (eqb forRemote 1) tlc out) out buffer
+
+unfoldable pub firstStateCall : ℕ → ℕ → ℕ → ℕ → ℕ → ℕ → List ℕ → List ℕ → List ℕ → List ℕ → List ℕ → OutCall
+firstStateCall h forRemote localLow localHigh remoteLow remoteHigh tlcs localKey remoteKey out buffer =
+    flaggedCall forRemote (wroteFirst h (eqb forRemote 1) (record {
       tlcs = tlcs;
       localAmount = record { low = localLow; high = localHigh };
       remoteAmount = record { low = remoteLow; high = remoteHigh };

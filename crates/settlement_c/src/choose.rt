@@ -1,10 +1,10 @@
-// The choice over C. Its answer is sixteen numbers behind the front.
+// The choice over C. Its answer is seventeen numbers behind the front.
+use c_answer::front::accept;
+use c_answer::front::refuse;
 use fiber_types::epoch::Epoch;
+use fiber_types::layout::UNLOCK_LOCAL;
+use fiber_types::layout::UNLOCK_REMOTE;
 use fiber_types::tlc::Amount;
-use fiber_types::unlock::LOCAL_SHARE;
-use fiber_types::unlock::REMOTE_SHARE;
-use types_c::front::accept;
-use types_c::front::refuse;
 use watchtower::choice;
 use watchtower::choice::Choice;
 use watchtower::choice::ChoiceAnswer;
@@ -16,12 +16,12 @@ use watchtower::choice::Side;
 use watchtower::choice::Way;
 ghost use mathlib.Core.Path.{_≡_};
 ghost use mathlib.Core.List.{[]};
-ghost use Rattle.types_c.specs.Answers.{answered, Leaves};
+ghost use Rattle.c_answer.specs.Answers.{answered, Leaves};
 ghost use Rattle.settlement_c.specs.Choose as S;
 ghost use Rattle.settlement_c.specs.inner.Numbers as I;
 
 // The bytes that the answer takes.
-pub const CHOOSE_ANSWER: usize = 144;
+pub const CHOOSE_ANSWER: usize = 152;
 
 // What the choice is: 0 a share, 1 a TLC by timeout, 2 a TLC by a preimage; the unlock's byte; the pair's place.
 fn choice_numbers(choice: Choice) -> [u64; 3]
@@ -29,8 +29,8 @@ fn choice_numbers(choice: Choice) -> [u64; 3]
 {
     match choice {
         Choice::Share(side) => match side {
-            Side::Remote => [0, REMOTE_SHARE as u64, 0],
-            Side::Local => [0, LOCAL_SHARE as u64, 0],
+            Side::Remote => [0, UNLOCK_REMOTE as u64, 0],
+            Side::Local => [0, UNLOCK_LOCAL as u64, 0],
         },
         Choice::Tlc { place, way } => match way {
             Way::Timeout => [1, place as u64, 0],
@@ -59,7 +59,13 @@ fn delay_numbers(delay: Delay) -> [u64; 4]
     }
 }
 
-fn decision_numbers(decision: Decision) -> [u64; 16]
+fn flag_number(flag: bool) -> u64
+    ensures { λ r. ⌜ r ≡ S.flagNumber flag ⌝ }
+{
+    if flag { 1 } else { 0 }
+}
+
+fn decision_numbers(decision: Decision) -> [u64; 17]
     ensures { λ r. ⌜ r ≡ S.decisionNumbers decision ⌝ }
 {
     let choice = decision.choice;
@@ -86,6 +92,7 @@ fn decision_numbers(decision: Decision) -> [u64; 16]
         decision.state_len as u64,
         decision.args_len as u64,
         c[2],
+        flag_number(decision.last),
     ]
 }
 
@@ -103,8 +110,8 @@ fn answer_choice(answer: &mut [u8], choice: ChoiceAnswer) -> u64
 #[no_mangle]
 pub extern "C" fn fiber_settlement_choose(
     h: u64,
-    for_remote: bool,
-    is_later: bool,
+    for_remote: u8,
+    is_later: u8,
     time: u64,
     header_number: u64,
     header_index: u64,
@@ -136,9 +143,15 @@ pub extern "C" fn fiber_settlement_choose(
     if answer.len() < CHOOSE_ANSWER {
         return 14;
     }
+    if 1 < for_remote {
+        return refuse(answer, 14, 0);
+    }
+    if 1 < is_later {
+        return refuse(answer, 14, 0);
+    }
     let scalars = Scalars {
         h: h as usize,
-        for_remote,
+        for_remote: for_remote == 1,
         time,
         header: Epoch {
             number: header_number,
@@ -161,7 +174,7 @@ pub extern "C" fn fiber_settlement_choose(
     };
     let chosen = choice::choose(
         scalars,
-        is_later,
+        is_later == 1,
         args,
         tlcs,
         local_key,

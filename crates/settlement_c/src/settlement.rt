@@ -1,13 +1,13 @@
 // The settlement operations. Every offset of every answer buffer stands in include/fiber_settlement.h.
 use crate::written::UPDATE_ANSWER;
 use crate::written::answer_written;
-use types_c::front::accept;
-use types_c::front::refuse;
+use c_answer::front::accept;
+use c_answer::front::refuse;
 use watchtower::update;
 use watchtower::witness;
 use watchtower::witness::WitnessRead;
 ghost use mathlib.Core.List.{[]};
-ghost use Rattle.types_c.specs.Answers.{Leaves};
+ghost use Rattle.c_answer.specs.Answers.{Leaves};
 ghost use Rattle.settlement_c.specs.Settlement as S;
 
 // The bytes that the reader's answer takes.

@@ -1,9 +1,9 @@
 // The answer of a writer, an update or first records: the length that was written.
+use c_answer::front::accept;
+use c_answer::front::refuse;
 use fiber_types::answer::Written;
-use types_c::front::accept;
-use types_c::front::refuse;
 ghost use mathlib.Core.List.{[]};
-ghost use Rattle.types_c.specs.Answers.{answered, Leaves};
+ghost use Rattle.c_answer.specs.Answers.{answered, Leaves};
 ghost use Rattle.settlement_c.specs.Settlement as S;
 
 // The bytes that it takes.

@@ -1,4 +1,4 @@
--- The marked rows of document 01's table "Edges", in its order: one list of what the definitions say of an input, for both hash lengths.
+-- The marked rows of docs/SCOPE.md, "Edges", in its order: one list of what the definitions say of an input, for both hash lengths.
 use Prim.Native.Nat.{ℕ, _+_, _^_}
 use mathlib.Core.Path.{_≡_}
 use mathlib.Core.List.{List, [], _∷_}

@@ -1,13 +1,13 @@
 // The update of a settlement witness: its unlocks are taken, and the state left is written.
 use fiber_types::answer::Written;
-use fiber_types::tlc::TLC_FIXED;
+use fiber_types::layout::RECORD_FIXED;
+use fiber_types::layout::SHARE_LEN;
+use fiber_types::layout::STATE_FIXED;
 use fiber_witness::state::put_state;
 use fiber_witness::unlocks::UnlocksAnswer;
 use fiber_witness::unlocks::count_standing;
 use fiber_witness::unlocks::take_unlocks;
 use fiber_witness::witness;
-use fiber_witness::witness::SHARE;
-use fiber_witness::witness::STATE_FIXED;
 use fiber_witness::witness::WitnessRead;
 ghost use Prim.Native.Nat.{_+_, _≤_};
 ghost use lib.ListN.{length};
@@ -32,26 +32,26 @@ fn settle(h: usize, w: &[u8], n: usize, first_unlock: usize, out: &mut [u8]) -> 
         UnlocksAnswer::Refused { number, place } => Written::Refused { number, place },
         UnlocksAnswer::Fine => {
             let k = count_standing(marks, n);
-            let size = STATE_FIXED + k * (TLC_FIXED + h);
+            let size = STATE_FIXED + k * (RECORD_FIXED + h);
             if out.len() < size {
                 return Written::Refused {
                     number: 13,
                     place: size,
                 };
             }
-            let share_place = 2 + n * (TLC_FIXED + h);
-            let behind = share_place + SHARE;
+            let share_place = 2 + n * (RECORD_FIXED + h);
+            let behind = share_place + SHARE_LEN;
             put_state(
                 w,
                 2,
-                TLC_FIXED + h,
+                RECORD_FIXED + h,
                 h,
                 n,
                 marks,
                 k,
-                &w[share_place..share_place + SHARE],
+                &w[share_place..share_place + SHARE_LEN],
                 remote,
-                &w[behind..behind + SHARE],
+                &w[behind..behind + SHARE_LEN],
                 local,
                 out,
             );

@@ -3,10 +3,10 @@
 // anything: what was taken goes to functions on plain slices and numbers. A form beside the upper face, for whoever wants the reference's; no crate
 // of the core uses it, the program `forms` runs it. Uses the two faces and fiber_bytes.
 use fiber_bytes::part_of;
-use fiber_types::tlc::TLC_FIXED;
+use fiber_types::layout::RECORD_FIXED;
+use fiber_types::layout::SHARES;
+use fiber_types::layout::UNLOCK;
 use fiber_types::tlc::valid_hash_len;
-use fiber_types::unlock::UNLOCK;
-use watchtower::witness::SHARES;
 use watchtower::witness::WitnessRead;
 ghost use mathlib.Core.Path.{_≡_};
 ghost use mathlib.Core.Bool.{cond};
@@ -165,7 +165,7 @@ fn tlcs_len(h: usize, counts: &[u8]) -> usize
     if !valid_hash_len(h) {
         return 0;
     }
-    count_in(counts) * (TLC_FIXED + h)
+    count_in(counts) * (RECORD_FIXED + h)
 }
 
 // What three takes mean, by whether each had enough bytes: the row of the first that had not, or the unlocks.
@@ -193,7 +193,7 @@ fn read_front<'a>(
             place: w.len(),
         };
     }
-    let size = TLC_FIXED + h;
+    let size = RECORD_FIXED + h;
     if !listed {
         let whole = (w.len() - 2) / size;
         return WitnessRead::Refused {

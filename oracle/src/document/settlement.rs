@@ -380,6 +380,8 @@ pub struct Chosen {
     pub record: (usize, usize),
     /// Which pair of the preimages counted, or 0 where none was wanted. The Rust does not tell it.
     pub pair: usize,
+    /// A later settlement whose other slot's key hash is zeros.
+    pub last: bool,
 }
 
 impl Chosen {
@@ -498,6 +500,8 @@ fn first_choice(request: &Request, state: &State, full: Epoch) -> Answer<Decisio
 
 fn handed_out(request: &Request, state: State, decision: Decision, full: Epoch) -> Chosen {
     let before = state.written();
+    let other = if request.for_remote { &state.remote } else { &state.local };
+    let last = request.witness.is_some() && other.key.iter().all(|byte| *byte == 0);
     let mut after = state;
     let mut part = (0, 0);
     let (byte, preimage, amount, key, delay) = match decision {
@@ -522,7 +526,7 @@ fn handed_out(request: &Request, state: State, decision: Decision, full: Epoch) 
     new_args.extend(&ckb_hash(&after.written())[..20]);
     new_args.push(1);
     new_args.extend(request.args.iter().skip(57));
-    Chosen { unlock, state: before, new_args, amount, key, delay, record: part, pair }
+    Chosen { unlock, state: before, new_args, amount, key, delay, record: part, pair, last }
 }
 
 fn chosen(request: &Request) -> Answer<Chosen> {

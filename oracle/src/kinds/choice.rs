@@ -198,6 +198,7 @@ impl Kind for Choice {
                     delay: c.delay.map(|(number, index, length)| Epoch { number, index, length }),
                     record,
                     pair,
+                    last: c.last,
                 })
             }
             calls::Choice::Wait(number) => Rust::Wait(number.into()),
@@ -225,6 +226,8 @@ impl Kind for Choice {
             (false, true, _) => "first, share",
             (false, false, 0) => "first, TLC by timeout",
             (false, false, _) => "first, TLC by preimage",
+            (true, true, _) if chosen.last && chosen.state[0] > 0 => "later and last, share beside TLCs",
+            (true, true, _) if chosen.last => "later and last, share",
             (true, true, _) if chosen.state[0] > 0 => "later, share beside TLCs",
             (true, true, _) => "later, share",
             (true, false, 0) => "later, TLC by timeout",
@@ -266,7 +269,7 @@ impl Kind for Choice {
         let kind = if byte >= 0xfe { 0 } else { 1 + chosen.unlock[1] };
         let (low, high) = halves(chosen.amount);
         format!(
-            "{kind} {byte} {low} {high} {} {} {} {} {} {} {} {} {} {} : {}",
+            "{kind} {byte} {low} {high} {} {} {} {} {} {} {} {} {} {} {} : {}",
             u8::from(chosen.key.is_some()),
             chosen.key.unwrap_or(0),
             u8::from(chosen.delay.is_some()),
@@ -277,6 +280,7 @@ impl Kind for Choice {
             chosen.state.len(),
             chosen.new_args.len(),
             chosen.pair,
+            u8::from(chosen.last),
             hex(&[&chosen.unlock[..], &chosen.state, &chosen.new_args].concat())
         )
     }

@@ -31,7 +31,7 @@ impl Kind for Due {
 
     const NAME: &'static str = "due";
     const ABOUT: &'static str = "header epoch + delay <= current epoch";
-    const EXPORT: &'static str = "fiber_test_is_due";
+    const EXPORT: &'static str = "fiber_settlement_is_due";
     const DUMP_LINES: usize = 250;
 
     fn edges() -> Vec<Input> {

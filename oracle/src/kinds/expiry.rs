@@ -34,7 +34,7 @@ impl Kind for Expiry {
 
     const NAME: &'static str = "expiry";
     const ABOUT: &'static str = "milliseconds of an absolute timestamp since";
-    const EXPORT: &'static str = "fiber_test_absolute_expiry";
+    const EXPORT: &'static str = "fiber_settlement_expiry";
     const DUMP_LINES: usize = 250;
 
     fn edges() -> Vec<u64> {

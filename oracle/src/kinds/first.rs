@@ -97,7 +97,7 @@ impl Kind for First {
 
     const NAME: &'static str = "first";
     const ABOUT: &'static str = "the first state";
-    const EXPORT: &'static str = "fiber_test_data_witness";
+    const EXPORT: &'static str = "fiber_settlement_first_state";
     const DUMP_LINES: usize = 120;
     const DUMP_ROWS: bool = true;
     const DUMP_ALIKE: usize = 40;
@@ -267,7 +267,7 @@ impl Kind for Record {
 
     const NAME: &'static str = "record";
     const ABOUT: &'static str = "one first record";
-    const EXPORT: &'static str = "fiber_test_tlc_witness";
+    const EXPORT: &'static str = "fiber_settlement_tlc_record";
     const DUMP_LINES: usize = 0;
 
     fn edges() -> Vec<One> {

@@ -111,5 +111,5 @@ macro_rules! hash_kind {
     };
 }
 
-hash_kind!(Ckb, "ckb", "CKB's hash of a message", "fiber_test_ckb_hash", CKB_HASH, ckb_hash);
-hash_kind!(Sha256, "sha256", "SHA-256 of a message", "fiber_test_sha256", SHA256, sha256);
+hash_kind!(Ckb, "ckb", "CKB's hash of a message", "fiber_settlement_ckb_hash", CKB_HASH, ckb_hash);
+hash_kind!(Sha256, "sha256", "SHA-256 of a message", "fiber_settlement_sha256", SHA256, sha256);

@@ -14,7 +14,7 @@ impl Kind for Key {
 
     const NAME: &'static str = "key";
     const ABOUT: &'static str = "the hash of a public key";
-    const EXPORT: &'static str = "fiber_test_key_hash";
+    const EXPORT: &'static str = "fiber_settlement_key_hash";
     const DUMP_LINES: usize = 60;
 
     fn edges() -> Vec<Vec<u8>> {

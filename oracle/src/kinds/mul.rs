@@ -39,7 +39,7 @@ impl Kind for Mul {
 
     const NAME: &'static str = "mul";
     const ABOUT: &'static str = "an epoch scaled by a fraction";
-    const EXPORT: &'static str = "fiber_test_mul";
+    const EXPORT: &'static str = "fiber_settlement_scale";
     const DUMP_LINES: usize = 300;
 
     fn edges() -> Vec<Input> {

@@ -218,6 +218,8 @@ pub struct Chosen {
     /// None: the settlement key; else a place in the settlement TLC list.
     pub key: Option<usize>,
     pub delay: Option<(u64, u64, u64)>,
+    /// Both sides are settled with it: no successor cell, the whole capacity goes out.
+    pub last: bool,
 }
 
 #[derive(Debug, Clone, PartialEq, Eq)]
@@ -381,6 +383,7 @@ fn built(
             amount: t.amount,
             key: (t.key.tag != SETTLEMENT_KEY).then_some(t.key.tag as usize),
             delay: t.is_first_settlement.then(|| (t.delay.number(), t.delay.index(), t.delay.length())),
+            last: t.last,
         }),
     }
 }

@@ -67,14 +67,14 @@ returns : tie.Need-returns
 returns c =
     let a = c .before .before .before .before .before .before .before .before .before .before .args in
     let q = c .before .before .before .before .before .before .before .before .before .before .pre in
-    handed-short (a .h) (a .args .now) (a .tracked .now) (a .preimages .now) (a .out .now) (a .t5) (a .t6) (a .choice) _ (c .before .before .before .before .before .plan-of .ensures) (q .0 .1 .1) (shares (c .before .before .before .before .before .before .before .before .before .before) .0) (shares (c .before .before .before .before .before .before .before .before .before .before) .1) (within-pairs _ _ _ (q .1)) (a .key) (a .delay) (a .place) _ _ (unlocked (c .before .before .before .before)) (newly (c .before .before .before)) (c .if3 .taken)
+    handed-short (a .h) (a .args .now) (a .tracked .now) (a .preimages .now) (a .out .now) (a .t5) (a .t6) (a .choice) _ (c .before .before .before .before .before .plan-of .ensures) (q .0 .1 .1) (shares (c .before .before .before .before .before .before .before .before .before .before) .0) (shares (c .before .before .before .before .before .before .before .before .before .before) .1) (within-pairs _ _ _ (q .1)) (a .last) (a .key) (a .delay) (a .place) _ _ (unlocked (c .before .before .before .before)) (newly (c .before .before .before)) (c .if3 .taken)
 
 put-joined-requires : tie.Need-put-joined-requires
 put-joined-requires c κs =
     let a = c .before .before .before .before .before .before .before .before .before .before .before .before .before .args in
     let q = c .before .before .before .before .before .before .before .before .before .before .before .before .before .pre in
     let k = planned (a .h) (a .args .now) (a .tracked .now) (a .preimages .now) (a .out .now) (a .t5) (a .t6) (a .choice) _ (c .before .before .before .before .before .before .before .before .plan-of .ensures) (q .0 .1 .1) (shares (c .before .before .before .before .before .before .before .before .before .before .before .before .before) .0) (shares (c .before .before .before .before .before .before .before .before .before .before .before .before .before) .1) (within-pairs _ _ _ (q .1)) (q .0 .1 .0) (within-tlcs _ _ _ (q .1)) in
-    ((hash-len-small (a .h) (q .0 .0), shares (c .before .before .before .before .before .before .before .before .before .before .before .before .before)), ((q .0 .1 .0, (q .0 .1 .1, k .0)), (k .1, omega (arith, c .before .before .before .if3 .left, handed-size (a .h) (a .args .now) (a .tracked .now) (a .preimages .now) (a .out .now) (a .t5) (a .t6) (a .choice) _ (c .before .before .before .before .before .before .before .before .plan-of .ensures) (q .0 .1 .1) (shares (c .before .before .before .before .before .before .before .before .before .before .before .before .before) .0) (shares (c .before .before .before .before .before .before .before .before .before .before .before .before .before) .1) (within-pairs _ _ _ (q .1)) (a .key) (a .delay) (a .place) _ _ (unlocked (c .before .before .before .before .before .before .before)) (newly (c .before .before .before .before .before .before))))))
+    ((hash-len-small (a .h) (q .0 .0), shares (c .before .before .before .before .before .before .before .before .before .before .before .before .before)), ((q .0 .1 .0, (q .0 .1 .1, k .0)), (k .1, omega (arith, c .before .before .before .if3 .left, handed-size (a .h) (a .args .now) (a .tracked .now) (a .preimages .now) (a .out .now) (a .t5) (a .t6) (a .choice) _ (c .before .before .before .before .before .before .before .before .plan-of .ensures) (q .0 .1 .1) (shares (c .before .before .before .before .before .before .before .before .before .before .before .before .before) .0) (shares (c .before .before .before .before .before .before .before .before .before .before .before .before .before) .1) (within-pairs _ _ _ (q .1)) (a .last) (a .key) (a .delay) (a .place) _ _ (unlocked (c .before .before .before .before .before .before .before)) (newly (c .before .before .before .before .before .before))))))
 
 amount-of-requires : tie.Need-amount-of-requires
 amount-of-requires c κs =
@@ -89,7 +89,7 @@ returns-2 : tie.Need-returns-2
 returns-2 c =
     let a = c .before .before .before .before .before .before .before .before .before .before .before .before .before .before .before .before .before .before .before .before .args in
     let q = c .before .before .before .before .before .before .before .before .before .before .before .before .before .before .before .before .before .before .before .before .pre in
-    handed-whole (a .h) (a .args .now) (a .tracked .now) (a .preimages .now) (a .out .now) (a .t5) (a .t6) (a .choice) _ (c .before .before .before .before .before .before .before .before .before .before .before .before .before .before .before .plan-of .ensures) (q .0 .1 .1) (shares (c .before .before .before .before .before .before .before .before .before .before .before .before .before .before .before .before .before .before .before .before) .0) (shares (c .before .before .before .before .before .before .before .before .before .before .before .before .before .before .before .before .before .before .before .before) .1) (within-pairs _ _ _ (q .1)) (a .key) (a .delay) (a .place) _ _ (unlocked (c .before .before .before .before .before .before .before .before .before .before .before .before .before .before)) (newly (c .before .before .before .before .before .before .before .before .before .before .before .before .before)) (c .before .before .before .before .before .before .before .before .before .before .if3 .left) _ _ _ (c .before .amount-of .ensures) (c .record-size .ensures) (c .before .before .before .before .before .before .put-joined .ensures)
+    handed-whole (a .h) (a .args .now) (a .tracked .now) (a .preimages .now) (a .out .now) (a .t5) (a .t6) (a .choice) _ (c .before .before .before .before .before .before .before .before .before .before .before .before .before .before .before .plan-of .ensures) (q .0 .1 .1) (shares (c .before .before .before .before .before .before .before .before .before .before .before .before .before .before .before .before .before .before .before .before) .0) (shares (c .before .before .before .before .before .before .before .before .before .before .before .before .before .before .before .before .before .before .before .before) .1) (within-pairs _ _ _ (q .1)) (a .last) (a .key) (a .delay) (a .place) _ _ (unlocked (c .before .before .before .before .before .before .before .before .before .before .before .before .before .before)) (newly (c .before .before .before .before .before .before .before .before .before .before .before .before .before)) (c .before .before .before .before .before .before .before .before .before .before .if3 .left) _ _ _ (c .before .amount-of .ensures) (c .record-size .ensures) (c .before .before .before .before .before .before .put-joined .ensures)
 
 pub write-output-spec : {M : Type 1} → statement M
 write-output-spec =

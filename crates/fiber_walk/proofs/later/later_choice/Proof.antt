@@ -1,4 +1,4 @@
--- The test of the definition, then our share or the walk.
+-- Our share or the walk.
 use mathlib.Core.Path.{_∙_}
 use Rattle.fiber_choice.proofs.WalkLaws.{reaches-later}
 use Rattle.fiber_choice.proofs.SettlementsLaws.{choice-share, choice-walk}
@@ -7,26 +7,18 @@ use Rattle.fiber_walk.proofs.later.later_choice.Statement.{statement}
 use Rattle.fiber_walk.proofs.later.later_choice.Tie as tie
 
 returns : tie.Need-returns
-returns c args localKey remoteKey =
-    let s = c .before .before in
-    c .our-share .ensures ∙ choice-share _ _ _ _ (s .before .before .part-of .ensures) (s .same .ensures) (c .before .if1 .taken)
+returns c args localKey remoteKey = c .our-share .ensures ∙ choice-share _ _ (c .before .if1 .taken)
 
 walked-requires : tie.Need-walked-requires
-walked-requires c κs = (c .before .before .before .before .before .before .before .before .pre, reaches-later _ _)
+walked-requires c κs = (c .before .before .before .before .pre, reaches-later _ _)
 
 returns-2 : tie.Need-returns-2
-returns-2 c args localKey remoteKey =
-    let s = c .before .before in
-    c .walked .ensures ∙ choice-walk _ _ _ _ (s .before .before .part-of .ensures) (s .same .ensures) (c .before .if1 .left)
+returns-2 c args localKey remoteKey = c .walked .ensures ∙ choice-walk _ _ (c .before .if1 .left)
 
 pub later-choice-spec : {M : Type 1} → statement M
 later-choice-spec =
     tie.close
     (tie.spec
-    (λ c. search needs)
-    (λ c κs. search needs)
-    (λ c. search needs)
-    (λ c κs. search needs)
     (λ c κs. search needs)
     returns
     walked-requires

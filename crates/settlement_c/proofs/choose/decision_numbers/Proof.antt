@@ -9,8 +9,8 @@ use Rattle.settlement_c.proofs.choose.decision_numbers.Tie as tie
 returns : tie.Need-returns
 unfolding choiceNumbers decisionNumbers
 returns c =
-    let h = c .before .before .before .before .args .decision in
-    rw (c .before .before .before .choice-numbers .ensures, c .before .before .key-numbers .ensures, c .before .delay-numbers .ensures, key-two (h .key), delay-four (h .delay))
+    let h = c .before .before .before .before .before .args .decision in
+    rw (c .before .before .before .before .choice-numbers .ensures, c .before .before .before .key-numbers .ensures, c .before .before .delay-numbers .ensures, c .flag-number .ensures, key-two (h .key), delay-four (h .delay))
 
 pub decision-numbers-spec : {M : Type 1} → statement M
 decision-numbers-spec =
@@ -28,4 +28,5 @@ decision-numbers-spec =
     (λ c. search needs)
     (λ c. search needs)
     (λ c. search needs)
+    (λ c κs. search needs)
     returns)

@@ -1,7 +1,7 @@
 -- The buffer's length, then the answer of the reader.
 use mathlib.Core.Path.{refl, sym, _∙_}
 use Rattle.settlement_c.specs.Settlement.{readAnswer, readCall}
-use Rattle.types_c.proofs.AnswersLaws.{call-short, call-by}
+use Rattle.c_answer.proofs.AnswersLaws.{call-short, call-by}
 use borrow.Author.Needs.{needs}
 use Rattle.settlement_c.proofs.settlement.fiber_settlement_read.Statement.{statement}
 use Rattle.settlement_c.proofs.settlement.fiber_settlement_read.Tie as tie

@@ -1,6 +1,6 @@
 -- The buffer's length, then the answer of the writer.
 use Rattle.settlement_c.specs.Settlement.{writtenAnswer, writtenCall, updateCall}
-use Rattle.types_c.proofs.AnswersLaws.{call-short, call-by}
+use Rattle.c_answer.proofs.AnswersLaws.{call-short, call-by}
 use borrow.Author.Needs.{needs}
 use Rattle.settlement_c.proofs.settlement.fiber_settlement_update.Statement.{statement}
 use Rattle.settlement_c.proofs.settlement.fiber_settlement_update.Tie as tie
