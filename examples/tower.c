@@ -112,12 +112,8 @@ static void store_tlc(struct tower *tower, int owner, int i)
 /* The tracked entry of a settlement TLC: whole hash, algorithm, and the record that stands in the cell. */
 static void track_tlc(struct tower *tower, int owner, int i)
 {
-    const uint8_t *tlc = tower->tlcs + i * FIBER_SETTLEMENT_TLC;
-    uint8_t *entry = tower->tracked + i * TRACKED, answer[FIBER_SETTLEMENT_WRITTEN_ANSWER];
-    memcpy(entry + FIBER_SETTLEMENT_TRACKED_HASH, tlc + FIBER_SETTLEMENT_TLC_HASH, FIBER_SETTLEMENT_HASH);
-    entry[FIBER_SETTLEMENT_TRACKED_ALGORITHM] = tlc[FIBER_SETTLEMENT_TLC_ALGORITHM];
-    must(fiber_settlement_tlc_record(H, owner != tower->party, tlc, FIBER_SETTLEMENT_TLC, entry + FIBER_SETTLEMENT_TRACKED_RECORD,
-                                     FIBER_SETTLEMENT_RECORD(H), answer, sizeof answer) == FIBER_SETTLEMENT_OK,
+    must(fiber_settlement_put_tracked(H, owner != tower->party, tower->tlcs + i * FIBER_SETTLEMENT_TLC, FIBER_SETTLEMENT_TLC,
+                                      tower->tracked + i * TRACKED, TRACKED) == FIBER_SETTLEMENT_OK,
          "a record");
 }
 
@@ -176,40 +172,12 @@ static struct fiber_settlement_bytes witness_of(const struct chain *chain)
     return witness;
 }
 
-/* Is the state that this tower knows of the one that the cell's args name? Asked before every choice. */
-static int knows_the_state(const struct tower *tower, const struct chain *chain)
-{
-    const struct fiber_settlement_bytes witness = witness_of(chain);
-    uint8_t state[STATE], answer[FIBER_SETTLEMENT_UPDATE_ANSWER];
-    size_t len = STATE;
-    if (chain->args[FIBER_SETTLEMENT_ARGS_LATER]) {
-        must(fiber_settlement_update(H, witness.bytes, witness.len, state, sizeof state, answer, sizeof answer) == FIBER_SETTLEMENT_OK,
-             "the witness");
-        len = (size_t)fiber_settlement_field(answer, FIBER_SETTLEMENT_UPDATE_LENGTH);
-    } else {
-        first_state(tower, chain->owner, state);
-    }
-    return fiber_settlement_state_matches(chain->args, sizeof chain->args, state, len);
-}
-
-/* A list in the wrong view is well formed, and the choice takes it. The args tell. */
-static void wrong_view(const struct tower *tower, const struct chain *chain)
-{
-    struct tower wrong = *tower;
-    for (int i = 0; i < TLCS; i++)
-        wrong.tlcs[i * FIBER_SETTLEMENT_TLC + FIBER_SETTLEMENT_TLC_RECEIVED] ^= 1;
-    must(knows_the_state(tower, chain), "the state of the args");
-    must(!knows_the_state(&wrong, chain), "a list in the wrong view");
-}
-
 /* ---- choosing ---- */
 
 static struct fiber_settlement_request request_of(const struct tower *tower, const struct chain *chain)
 {
     struct fiber_settlement_request r = {0};
-    r.h = fiber_settlement_hash_length(chain->args, sizeof chain->args);
     r.commitment = chain->owner == tower->party ? FIBER_SETTLEMENT_COMMITMENT_OURS : FIBER_SETTLEMENT_COMMITMENT_THEIRS;
-    r.stage = chain->args[FIBER_SETTLEMENT_ARGS_LATER] ? FIBER_SETTLEMENT_STAGE_LATER : FIBER_SETTLEMENT_STAGE_FIRST;
     r.time = chain->tip_median_time;
     r.header = (struct fiber_settlement_epoch){.number = chain->cell_epoch, .index = 0, .length = 1};
     r.current = (struct fiber_settlement_epoch){.number = chain->tip_epoch, .index = 0, .length = 1};
@@ -223,6 +191,24 @@ static struct fiber_settlement_request request_of(const struct tower *tower, con
     r.preimages = (struct fiber_settlement_bytes){tower->pairs, tower->known * FIBER_SETTLEMENT_PAIR};
     r.witness = witness_of(chain);
     return r;
+}
+
+/* Is the state that this tower knows of the one that the cell's args name? Asked before every choice. */
+static int knows_the_state(const struct tower *tower, const struct chain *chain)
+{
+    const struct fiber_settlement_request r = request_of(tower, chain);
+    uint8_t state[STATE];
+    return fiber_settlement_request_matches(&r, state, sizeof state);
+}
+
+/* A list in the wrong view is well formed, and the choice takes it. The args tell. */
+static void wrong_view(const struct tower *tower, const struct chain *chain)
+{
+    struct tower wrong = *tower;
+    for (int i = 0; i < TLCS; i++)
+        wrong.tlcs[i * FIBER_SETTLEMENT_TLC + FIBER_SETTLEMENT_TLC_RECEIVED] ^= 1;
+    must(knows_the_state(tower, chain), "the state of the args");
+    must(!knows_the_state(&wrong, chain), "a list in the wrong view");
 }
 
 static void say(const struct tower *tower, const struct chain *chain, const uint8_t *answer)
@@ -264,19 +250,13 @@ static void put_on_chain(struct chain *chain, int party, uint8_t *out, const uin
     chain->gone = is_last;
 }
 
-/* A tower that sees a settlement, its own or the other's, takes the settled TLC out of what it tracks. Each witness has one unlock here. */
+/* A tower that sees a settlement, its own or the other's, takes the settled TLC out of what it tracks. */
 static void follow(struct tower *tower, const struct chain *chain)
 {
     const struct fiber_settlement_bytes witness = witness_of(chain);
-    uint8_t answer[FIBER_SETTLEMENT_READ_ANSWER], *entry;
-    must(fiber_settlement_read(H, witness.bytes, witness.len, answer, sizeof answer) == FIBER_SETTLEMENT_OK, "the witness");
-    must(fiber_settlement_field(answer, FIBER_SETTLEMENT_READ_TLCS) == tower->standing, "the number of TLCs");
-    const uint8_t byte = witness.bytes[fiber_settlement_field(answer, FIBER_SETTLEMENT_READ_FIRST_UNLOCK)];
-    if (byte >= tower->standing)
-        return; /* a share */
-    entry = tower->tracked + byte * TRACKED;
-    tower->standing--;
-    memmove(entry, entry + TRACKED, (tower->standing - byte) * TRACKED);
+    const size_t left = fiber_settlement_follow(H, witness.bytes, witness.len, tower->tracked, tower->standing * TRACKED);
+    must(left != SIZE_MAX, "the witness");
+    tower->standing = left / TRACKED;
 }
 
 /* One look at the chain. 1 if the tower settled something; a wait is ordinary. */

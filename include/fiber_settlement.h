@@ -20,7 +20,8 @@
  *   20,  8        the delay, a relative epoch since value (RFC 0017), little-endian
  *   28,  8        the commitment number, BIG-endian, alone of all numbers here
  *   36, 20        state hash: the first 20 bytes of the CKB hash of the state that the cell holds
- *   56,  1        0 in the commitment transaction's own cell, 1 in a cell that a settlement transaction made
+ *   56,  1        1 in a cell that a settlement transaction made, 0 in the commitment transaction's own cell. (The reference writes
+ *                 the 1, and tells the first settlement by the cell's out point; where the two part, leave the cell.)
  *   57,  1        features. Legacy args end before it.
  *
  * h is how many bytes of a payment hash a record holds, and the args say it: 57 bytes, h is 20; 58 bytes with a features byte of 1,
@@ -60,18 +61,22 @@
  *
  * A list in the wrong view is well formed, and the choice takes it: by it a tower leaves its own expired TLCs to the other side,
  * without an error. The args show it. Before a first settlement make the state (fiber_settlement_first_state), before a later one
- * update the witness, and go on only if fiber_settlement_state_matches says that the args name that state.
+ * update the witness, and go on only if fiber_settlement_state_matches says that the args name that state. With a struct
+ * fiber_settlement_request that is one call, fiber_settlement_request_matches.
  *
  * WHICH TIME, WHICH EPOCHS. time is the median time of the tip's block in milliseconds (RPC get_block_median_time of the tip's
- * hash), never the wall clock, since the chain judges an expiry by the former. header is the epoch of the header of the block that
- * holds the cell, current is the epoch of the tip's header: of the number that a header gives, bits 0 to 23 are number, 24 to 39
- * index, 40 to 55 length. The delay comes from the args.
+ * hash), never the wall clock, since the chain judges an expiry by the former. A time that is ahead takes our share too early, which
+ * no chain turns down, and gives up TLCs whose preimage is still to come; one that is behind, or in seconds, leaves expired TLCs to
+ * the other side. header is the epoch of the header of the block that holds the cell, current is the epoch of the tip's header
+ * (fiber_settlement_epoch_of takes what a header has); with both the tip's nothing is ever due. The delay comes from the args.
+ *
+ * REVOKED? A commitment of theirs whose number is at or below the last one that they revoked is answered by a revocation, not here.
  *
  * WHAT TO DO on each number:
  *
- *    0           act on the answer
- *    1 to 6      these bytes are no witness of this channel: look whether the 16 bytes are cut off, whether h is the args' and
- *                whether it is the right input's witness. The same bytes get the same answer again.
+ *    0           look at FIBER_SETTLEMENT_CHOOSE_LAST, then act on the answer
+ *    1 to 6      these bytes are no settlement witness of this channel: look whether the 16 bytes are cut off, whether h is the
+ *                args', whether it is the right input's witness and none of a revocation. The same bytes get the same answer again.
  *    7           an epoch that was handed in, or the delay in the args, has length 0 (or a denominator is 0)
  *    8           a fraction of a delay passes its bounds; a choice never says so
  *    10, 11      not the args of a commitment cell: leave the cell
@@ -79,17 +84,20 @@
  *                later settlement goes on as soon as anybody's unlock has settled one of them.
  *    13          give the output as many bytes as the place says and call again
  *    14          the call is wrong, not the chain: h, a flag, a length or a field. Asking again does not help.
- *    20, 21, 22  waits. Nothing is wrong, nothing was written; ask again at the next tip.
- *       22       not yet: no expiry, no delay and no preimage allows an unlock
- *       21       our share is not there. It was paid out, and nothing is left for us; or the key is not this cell's.
- *       20       the tracked list is not what stands in the cell: scan the chain again. Where a 20 or a 21 stays, look at
- *                for_remote first.
+ *    20, 21, 22  waits: nothing was written; ask again at the next tip. A mistake can look like one, so look where it stays:
+ *       22       not yet: no expiry, no delay and no preimage allows an unlock. Where it stays past the delay and the last
+ *                expiry: is time in milliseconds, header of the cell's own block, tlcs whole and with our keys, and does the state
+ *                match the args?
+ *       21       our share is not there. It was paid out, and then the core, as the reference, takes no TLC of this cell any more,
+ *                also with a preimage that comes later; or the key, or for_remote, is not this cell's.
+ *       20       the tracked list is not what stands in the cell: scan the chain again. Where it stays, look at for_remote first.
  */
 #ifndef FIBER_SETTLEMENT_H
 #define FIBER_SETTLEMENT_H
 
 #include <stddef.h>
 #include <stdint.h>
+#include <string.h>
 
 #ifdef __cplusplus
 extern "C" {
@@ -125,7 +133,7 @@ uint64_t fiber_settlement_abi(void);
 #define FIBER_SETTLEMENT_NUMBER 0
 #define FIBER_SETTLEMENT_PLACE 8
 
-/* A number of an answer, by one of the offsets in this file. */
+/* A number of an answer, by one of the offsets in this file that belong to that answer: nothing looks how long it is. */
 static inline uint64_t fiber_settlement_field(const uint8_t *answer, size_t offset)
 {
     uint64_t number = 0;
@@ -171,7 +179,7 @@ static inline uint64_t fiber_settlement_field(const uint8_t *answer, size_t offs
 #define FIBER_SETTLEMENT_SHARE_AMOUNT 20 /* offset, 16 bytes */
 #define FIBER_SETTLEMENT_SHARES 72 /* both */
 
-/* A state of n records: n, the records, both shares. A choice is made of 254 records at most: place 254 would be slot remote's byte. */
+/* A state of n records: n, the records, both shares. A choice is made of 254 at most: place 254 would be slot remote's byte. */
 #define FIBER_SETTLEMENT_STATE_FIXED 73 /* what a state has beside its records */
 #define FIBER_SETTLEMENT_MOST_TLCS 254
 #define FIBER_SETTLEMENT_STATE(h, n) (73 + (n) * (65 + (h)))
@@ -218,7 +226,7 @@ static inline int fiber_settlement_has_chain_prefix(const uint8_t *on_chain, siz
 /* Reads a witness of a channel whose records have h bytes of a hash. Numbers: 14; 1 to 4 front to back. */
 #define FIBER_SETTLEMENT_READ_ANSWER 48
 #define FIBER_SETTLEMENT_READ_TLCS 16 /* n, how many TLCs */
-#define FIBER_SETTLEMENT_READ_UNLOCK_COUNT 24 /* how many unlocks */
+#define FIBER_SETTLEMENT_READ_UNLOCK_COUNT 24 /* how many unlocks there are, whatever the count byte says */
 #define FIBER_SETTLEMENT_READ_SHARE_PLACE 32 /* the place of the share part: slot remote, then slot local */
 #define FIBER_SETTLEMENT_READ_FIRST_UNLOCK 40 /* the place of the first unlock, or the witness's length */
 
@@ -292,27 +300,30 @@ uint64_t fiber_settlement_expiry(uint64_t since, uint8_t *answer, size_t answer_
 /* A settlement TLC: an entry of the list that the host stored with the commitment, in the commitment's order. The list stays
  * whole in later settlements. Whose view received is in stands above: it is 1 exactly if the commitment's owner offered. */
 #define FIBER_SETTLEMENT_TLC 124
-#define FIBER_SETTLEMENT_TLC_RECEIVED 0 /* 1, 0 or 1 */
-#define FIBER_SETTLEMENT_TLC_ALGORITHM 1 /* 1, 0 CKB's hash or 1 SHA-256 */
-#define FIBER_SETTLEMENT_TLC_AMOUNT 2 /* 16 */
+#define FIBER_SETTLEMENT_TLC_RECEIVED 0 /* 1 byte: 0 or 1 */
+#define FIBER_SETTLEMENT_TLC_ALGORITHM 1 /* 1 byte: 0 CKB's hash or 1 SHA-256 */
+#define FIBER_SETTLEMENT_TLC_AMOUNT 2 /* 16 bytes, little-endian, as every number here */
 #define FIBER_SETTLEMENT_TLC_HASH 18 /* 32, whole whatever h is */
 #define FIBER_SETTLEMENT_TLC_EXPIRY 50 /* 8, milliseconds; a record keeps whole seconds of it */
-#define FIBER_SETTLEMENT_TLC_LOCAL_KEY 58 /* 33, ours, whosever the commitment is */
+#define FIBER_SETTLEMENT_TLC_LOCAL_KEY 58 /* 33, ours, whoever's the commitment is */
 #define FIBER_SETTLEMENT_TLC_REMOTE_KEY 91 /* 33, theirs */
 
 /* A tracked TLC: one that stands in the cell, with its whole hash. For a first settlement these are all settlement TLCs, each with
  * its record (fiber_settlement_tlc_record). For each unlock of a TLC that the chain shows, by whomever, its entry is taken out;
  * the others keep their order, and all places of one witness mean the list before it. Three things are the host's duty: the
  * hash begins with the record's h bytes, the algorithm is bit 1 of the record's type, and the order is that in which the TLCs
- * stand. Of these the choice tests the order alone (20); by a wrong hash or algorithm it misses a preimage. */
+ * stand. Of these the choice tests the order alone (20). By a wrong hash or algorithm it misses a preimage, and once the TLC has
+ * expired it takes our share and so gives the TLC up; or it puts in a preimage that the chain turns down, at every tip.
+ * fiber_settlement_put_tracked and fiber_settlement_follow keep the list right. */
 #define FIBER_SETTLEMENT_TRACKED(h) (98 + (h))
 #define FIBER_SETTLEMENT_TRACKED_FIXED 98 /* what a tracked TLC has beside the h bytes of its record's hash */
 #define FIBER_SETTLEMENT_TRACKED_HASH 0 /* 32 */
 #define FIBER_SETTLEMENT_TRACKED_ALGORITHM 32 /* 1 */
 #define FIBER_SETTLEMENT_TRACKED_RECORD 33 /* 65 + h, as in a witness */
 
-/* A stored preimage: its hash (32), then the preimage (32). Of several with one hash the first alone is looked at, and it
- * counts only if it has that hash under the TLC's algorithm. */
+/* A stored preimage: its whole hash (32), then the preimage (32). Of several with one hash the first alone is looked at, and it
+ * counts only if it has that hash under the TLC's algorithm. One that does not count is as good as none: once the TLC has expired
+ * our share is taken, and the TLC is given up. */
 #define FIBER_SETTLEMENT_PAIR 64
 #define FIBER_SETTLEMENT_PAIR_PREIMAGE 32 /* offset */
 
@@ -324,6 +335,55 @@ uint64_t fiber_settlement_expiry(uint64_t since, uint8_t *answer, size_t answer_
 uint64_t fiber_settlement_tlc_record(uint64_t h, uint8_t for_remote, const uint8_t *tlc, size_t tlc_len, uint8_t *out,
                                      size_t out_len, uint8_t *answer, size_t answer_len);
 
+/* Writes the tracked TLC of a settlement TLC, 98 + h bytes, to the front of entry. Numbers as of the record. */
+static inline uint64_t fiber_settlement_put_tracked(uint64_t h, uint8_t for_remote, const uint8_t *tlc, size_t tlc_len,
+                                                    uint8_t *entry, size_t entry_len)
+{
+    uint8_t answer[FIBER_SETTLEMENT_WRITTEN_ANSWER];
+    uint64_t number;
+    if (entry_len < FIBER_SETTLEMENT_TRACKED_RECORD)
+        return FIBER_SETTLEMENT_OUTPUT_SHORT;
+    number = fiber_settlement_tlc_record(h, for_remote, tlc, tlc_len, entry + FIBER_SETTLEMENT_TRACKED_RECORD,
+                                         entry_len - FIBER_SETTLEMENT_TRACKED_RECORD, answer, sizeof answer);
+    if (number == FIBER_SETTLEMENT_OK) {
+        memcpy(entry + FIBER_SETTLEMENT_TRACKED_HASH, tlc + FIBER_SETTLEMENT_TLC_HASH, FIBER_SETTLEMENT_HASH);
+        entry[FIBER_SETTLEMENT_TRACKED_ALGORITHM] = tlc[FIBER_SETTLEMENT_TLC_ALGORITHM];
+    }
+    return number;
+}
+
+/* Takes the TLCs that a witness settles out of the tracked list of the cell that its transaction spent, for the cell that it made.
+ * Returns the list's new length; SIZE_MAX, with the list as it was, where the witness is not of that cell or unlocks what is not
+ * there. The 16 bytes in front are cut off before. */
+static inline size_t fiber_settlement_follow(uint64_t h, const uint8_t *witness, size_t witness_len, uint8_t *tracked,
+                                             size_t tracked_len)
+{
+    uint8_t answer[FIBER_SETTLEMENT_READ_ANSWER], settled[256] = {0};
+    size_t record, entry, n, at, i, left = 0;
+    if (fiber_settlement_read(h, witness, witness_len, answer, sizeof answer) != FIBER_SETTLEMENT_OK)
+        return SIZE_MAX;
+    record = FIBER_SETTLEMENT_RECORD((size_t)h);
+    entry = FIBER_SETTLEMENT_TRACKED((size_t)h);
+    n = (size_t)fiber_settlement_field(answer, FIBER_SETTLEMENT_READ_TLCS);
+    if (n * entry != tracked_len)
+        return SIZE_MAX;
+    for (i = 0; i < n; i++)
+        if (memcmp(tracked + i * entry + FIBER_SETTLEMENT_TRACKED_RECORD, witness + FIBER_SETTLEMENT_WITNESS_TLCS + i * record,
+                   record) != 0)
+            return SIZE_MAX;
+    for (at = (size_t)fiber_settlement_field(answer, FIBER_SETTLEMENT_READ_FIRST_UNLOCK); at < witness_len;
+         at += witness[at + 1] == 1 ? FIBER_SETTLEMENT_UNLOCK_WITH_PREIMAGE : FIBER_SETTLEMENT_UNLOCK) {
+        if (witness[at] >= FIBER_SETTLEMENT_UNLOCK_REMOTE)
+            continue; /* a share */
+        if (witness[at] >= n || settled[witness[at]]++)
+            return SIZE_MAX;
+    }
+    for (i = 0; i < n; i++)
+        if (!settled[i])
+            memmove(tracked + left++ * entry, tracked + i * entry, entry);
+    return left * entry;
+}
+
 /* The state of the commitment transaction's own cell, whose hash its args have. Amounts are two halves of 64 bits; local is
  * ours, remote theirs, with for_remote and without. Numbers: 14, 12, 13. */
 uint64_t fiber_settlement_first_state(uint64_t h, uint8_t for_remote, uint64_t local_low, uint64_t local_high,
@@ -334,20 +394,22 @@ uint64_t fiber_settlement_first_state(uint64_t h, uint8_t for_remote, uint64_t l
 
 /* ---- The choice ---- */
 
-/* Chooses what is unlocked next. With is_later the witness is updated first, and amounts and epochs do not count; without, the
- * witness is not looked at. To the front of out go, joined: the unlock with 65 zero bytes for its signature, the state before
+/* Chooses what is unlocked next. With is_later the witness is updated first, and amounts and epochs do not count (14 looks at them
+ * all the same); without, the witness is not looked at. To the front of out go, joined: the unlock with 65 zero bytes for its signature, the state before
  * it, and the new lock args. 99 + FIBER_SETTLEMENT_STATE(h, n) + 58 bytes are enough, 24,868 for the largest cell.
  *
  * What is chosen: the first TLC in order that is ours by preimage and whose preimage is lent, expired or not, or that is ours by
  * timeout with time > expiry; in a first settlement also with 1/3 of the delay due for a preimage, 2/3 for a timeout. Where there
  * is none, our share, but only if no TLC stands that we may still get: each one is ours by preimage, without a preimage, and
- * expired; in a first settlement also with the whole delay due. In a later one a TLC is passed over, and keeps our share waiting,
- * if its expiry is no absolute timestamp or if no settlement TLC has its hash and our key.
+ * expired; in a first settlement also with the whole delay due. So our share ends what we can get of the cell. In a later settlement
+ * a TLC is passed over, and keeps our share waiting, if its expiry is no absolute timestamp or if no settlement TLC has its hash
+ * and our key. The expiry is the TLC's milliseconds in a first settlement, the whole seconds of its record in a later one.
  *
- * On chain the order is another: the 16 bytes, the byte 1, the state, the unlock with its signature. The commitment input's
- * since is the delay of the answer as a relative epoch (0xA000000000000000, number in bits 0 to 23, index in 24 to 39, length
- * in 40 to 55), and 0 in a later settlement. For a TLC by timeout the reference gives its other inputs the absolute timestamp
- * 0x4000000000000000 with time / 1000.
+ * On chain the order is another: the 16 bytes, the byte 1, the state, the unlock with its signature. Unless it is the last
+ * settlement, the first output is the successor cell: the same lock with the new args, which name the state after the unlock, and what
+ * the cell had less the amount. The commitment input's since is the delay of the answer as a relative epoch
+ * (fiber_settlement_since_of), and 0 in a later settlement. For a TLC by timeout the reference gives its other inputs, of which there is
+ * at least one, the absolute timestamp 0x4000000000000000 with time / 1000.
  *
  * Numbers, in this order: 14; 10, 11; in a later settlement 1 to 4 front to back, then 5 and 6; in a first one 7; 12; 20;
  * 21; 22; 13. */
@@ -362,19 +424,19 @@ uint64_t fiber_settlement_first_state(uint64_t h, uint8_t for_remote, uint64_t l
 #define FIBER_SETTLEMENT_CHOOSE_KEY_KIND 48 /* which key signs: */
 #define FIBER_SETTLEMENT_KEY_OURS 0 /* our settlement key */
 #define FIBER_SETTLEMENT_KEY_OF_TLC 1 /* the local key of a settlement TLC */
-#define FIBER_SETTLEMENT_CHOOSE_KEY_PLACE 56 /* that TLC's place in the settlement TLC list, else 0 */
+#define FIBER_SETTLEMENT_CHOOSE_KEY_PLACE 56 /* that TLC's place in the settlement TLC list, counted in entries from 0; else 0 */
 #define FIBER_SETTLEMENT_CHOOSE_DELAY_KIND 64 /* whether a delay goes with it: */
 #define FIBER_SETTLEMENT_NO_DELAY_OUT 0 /* a later settlement: none */
 #define FIBER_SETTLEMENT_DELAY_OUT 1 /* a first one: an epoch */
 #define FIBER_SETTLEMENT_CHOOSE_DELAY_NUMBER 72 /* 0 without a delay, as the next two */
 #define FIBER_SETTLEMENT_CHOOSE_DELAY_INDEX 80
 #define FIBER_SETTLEMENT_CHOOSE_DELAY_LENGTH 88
-#define FIBER_SETTLEMENT_CHOOSE_RECORD_PLACE 96 /* the TLC's record: its place in the witness, in a first settlement in tracked */
+#define FIBER_SETTLEMENT_CHOOSE_RECORD_PLACE 96 /* the TLC's record: its first byte in the witness, in a first one in tracked */
 #define FIBER_SETTLEMENT_CHOOSE_RECORD_LENGTH 104 /* its length; both are 0 for a share */
 #define FIBER_SETTLEMENT_CHOOSE_UNLOCK_LENGTH 112 /* the length of the unlock, at the front of out */
 #define FIBER_SETTLEMENT_CHOOSE_STATE_LENGTH 120 /* of the state, behind it */
 #define FIBER_SETTLEMENT_CHOOSE_ARGS_LENGTH 128 /* of the new args, behind that */
-#define FIBER_SETTLEMENT_CHOOSE_PAIR_PLACE 136 /* the place of the preimage's pair in the list of pairs, from 0; else 0 */
+#define FIBER_SETTLEMENT_CHOOSE_PAIR_PLACE 136 /* the place of the preimage's pair, counted in pairs from 0; else 0 */
 #define FIBER_SETTLEMENT_CHOOSE_LAST 144 /* 1 if this settlement is the last one, else 0 */
 
 /* The last settlement: a later one in which the other slot's key hash is zeros, the other party having been paid. Our share is
@@ -391,17 +453,14 @@ uint64_t fiber_settlement_choose(uint64_t h, uint8_t for_remote, uint8_t is_late
                                  const uint8_t *preimages, size_t preimages_len, const uint8_t *witness,
                                  size_t witness_len, uint8_t *out, size_t out_len, uint8_t *answer, size_t answer_len);
 
-/* The same with names instead of places. Begin with zeros and set what is known. What is left out is refused, not guessed: h,
- * commitment, stage or a key with 14, the args with 10, the witness of a later settlement with 1, an epoch of a first one with
- * 7. A time of 0 makes nothing expire, and an empty list is an empty list. */
-enum fiber_settlement_commitment {
-    FIBER_SETTLEMENT_COMMITMENT_OURS = 1, /* for_remote 0 */
-    FIBER_SETTLEMENT_COMMITMENT_THEIRS = 2 /* for_remote 1 */
-};
-
-enum fiber_settlement_stage {
-    FIBER_SETTLEMENT_STAGE_FIRST = 1, /* is_later 0, args byte 56 is 0 */
-    FIBER_SETTLEMENT_STAGE_LATER = 2 /* is_later 1, args byte 56 is 1 */
+/* The same with names instead of places, so that nothing is mistaken for another, and less can contradict: h, and first or later,
+ * come from the args. Begin with zeros and set what is known. What is left out or cannot be is 14 at 0: the commitment, the args, a
+ * key, a time that is not in milliseconds (from 2017 to 2286), an index that is not below its length, a tip before the cell's
+ * block, a witness in a first settlement. A left-out epoch of a first settlement is 7, a left-out witness of a later one 1. Amounts
+ * and lists that are left out are zero and empty: fiber_settlement_request_matches tells. */
+enum fiber_settlement_commitment { /* no flag has these values */
+    FIBER_SETTLEMENT_COMMITMENT_OURS = 0x4F, /* for_remote 0 */
+    FIBER_SETTLEMENT_COMMITMENT_THEIRS = 0x54 /* for_remote 1 */
 };
 
 struct fiber_settlement_bytes {
@@ -421,9 +480,7 @@ struct fiber_settlement_amount {
 };
 
 struct fiber_settlement_request {
-    uint64_t h; /* fiber_settlement_hash_length of the args */
     enum fiber_settlement_commitment commitment; /* whose it is: args bytes 0 to 19 */
-    enum fiber_settlement_stage stage;
     uint64_t time; /* the tip's median block time, milliseconds */
     struct fiber_settlement_epoch header; /* of the block that holds the cell */
     struct fiber_settlement_epoch current; /* of the tip */
@@ -438,21 +495,82 @@ struct fiber_settlement_request {
     struct fiber_settlement_bytes witness; /* that made the cell, its 16 bytes cut off; none in a first one */
 };
 
+/* The epoch in what a block's header has: number in bits 0 to 23, index in 24 to 39, length in 40 to 55. */
+static inline struct fiber_settlement_epoch fiber_settlement_epoch_of(uint64_t of_header)
+{
+    struct fiber_settlement_epoch epoch;
+    epoch.number = of_header & 0xFFFFFF;
+    epoch.index = of_header >> 24 & 0xFFFF;
+    epoch.length = of_header >> 40 & 0xFFFF;
+    return epoch;
+}
+
+/* The since of the commitment input of a first settlement: the delay that was handed out, as a relative epoch. */
+static inline uint64_t fiber_settlement_since_of(struct fiber_settlement_epoch delay)
+{
+    return (uint64_t)0xA000 << 48 | delay.length << 40 | delay.index << 24 | delay.number;
+}
+
+/* 1 if nothing in the request contradicts what the args say, and no number is one that the chain cannot have. */
+static inline int fiber_settlement_request_is_well(const struct fiber_settlement_request *r)
+{
+    const struct fiber_settlement_epoch *header = &r->header, *current = &r->current;
+    const uint64_t h = fiber_settlement_hash_length(r->args.bytes, r->args.len);
+    uint8_t answer[FIBER_SETTLEMENT_IS_DUE_ANSWER];
+    if (r->commitment != FIBER_SETTLEMENT_COMMITMENT_OURS && r->commitment != FIBER_SETTLEMENT_COMMITMENT_THEIRS)
+        return 0;
+    if (h == 0 || r->args.bytes[FIBER_SETTLEMENT_ARGS_LATER] > 1)
+        return 0;
+    if (r->time < (uint64_t)1500000 * 1000000 || r->time >= (uint64_t)10000000 * 1000000)
+        return 0;
+    if (r->args.bytes[FIBER_SETTLEMENT_ARGS_LATER] == 1)
+        return 1; /* the witness speaks for the rest */
+    if (r->witness.len != 0 || (header->length != 0 && header->index >= header->length)
+        || (current->length != 0 && current->index >= current->length))
+        return 0;
+    /* header + 0 at or before current; a length of 0 is left to the choice */
+    return fiber_settlement_is_due(header->number, header->index, header->length, 0, 0, 1, current->number, current->index,
+                                   current->length, answer, sizeof answer) != FIBER_SETTLEMENT_OK
+           || fiber_settlement_field(answer, FIBER_SETTLEMENT_IS_DUE_DUE) == 1;
+}
+
+/* 1 if the args name the state of this request: in a first settlement the one that its TLCs, amounts and keys give, in a later one the one
+ * that its witness leaves. To be asked before every choice, with the same struct: a list in the wrong view, amounts or keys of the wrong
+ * side, or the witness of another cell are well formed, and by them a tower pays the other side. scratch has room for the state,
+ * FIBER_SETTLEMENT_STATE(h, n) bytes; its content is of no use afterwards. */
+static inline int fiber_settlement_request_matches(const struct fiber_settlement_request *request, uint8_t *scratch,
+                                                   size_t scratch_len)
+{
+    const struct fiber_settlement_request *r = request;
+    uint8_t answer[FIBER_SETTLEMENT_WRITTEN_ANSWER];
+    const uint64_t h = fiber_settlement_hash_length(r->args.bytes, r->args.len);
+    uint64_t number;
+    if (!fiber_settlement_request_is_well(r))
+        return 0;
+    if (r->args.bytes[FIBER_SETTLEMENT_ARGS_LATER] == 1)
+        number = fiber_settlement_update(h, r->witness.bytes, r->witness.len, scratch, scratch_len, answer, sizeof answer);
+    else
+        number = fiber_settlement_first_state(
+            h, r->commitment == FIBER_SETTLEMENT_COMMITMENT_THEIRS, r->local_amount.low, r->local_amount.high,
+            r->remote_amount.low, r->remote_amount.high, r->tlcs.bytes, r->tlcs.len, r->local_key.bytes, r->local_key.len,
+            r->remote_key.bytes, r->remote_key.len, scratch, scratch_len, answer, sizeof answer);
+    return number == FIBER_SETTLEMENT_OK
+           && fiber_settlement_state_matches(r->args.bytes, r->args.len, scratch,
+                                             (size_t)fiber_settlement_field(answer, FIBER_SETTLEMENT_WRITTEN_LENGTH));
+}
+
 static inline uint64_t fiber_settlement_choose_request(const struct fiber_settlement_request *request, uint8_t *out,
                                                        size_t out_len, uint8_t *answer, size_t answer_len)
 {
     const struct fiber_settlement_request *r = request;
-    /* What is neither of the two values goes on as 2, which is no flag. */
-    const uint8_t for_remote = r->commitment == FIBER_SETTLEMENT_COMMITMENT_THEIRS ? 1
-                               : r->commitment == FIBER_SETTLEMENT_COMMITMENT_OURS ? 0
-                                                                                   : 2;
-    const uint8_t is_later = r->stage == FIBER_SETTLEMENT_STAGE_LATER   ? 1
-                             : r->stage == FIBER_SETTLEMENT_STAGE_FIRST ? 0
-                                                                        : 2;
+    const int is_well = fiber_settlement_request_is_well(r);
+    /* What is not well goes on as the flag 2, which is none. */
+    const uint8_t for_remote = (uint8_t)(is_well ? r->commitment == FIBER_SETTLEMENT_COMMITMENT_THEIRS : 2);
+    const uint8_t is_later = (uint8_t)(is_well ? r->args.bytes[FIBER_SETTLEMENT_ARGS_LATER] : 2);
     return fiber_settlement_choose(
-        r->h, for_remote, is_later, r->time, r->header.number, r->header.index, r->header.length, r->current.number,
-        r->current.index, r->current.length, r->local_amount.low, r->local_amount.high, r->remote_amount.low,
-        r->remote_amount.high, r->args.bytes, r->args.len, r->tlcs.bytes, r->tlcs.len, r->local_key.bytes,
+        fiber_settlement_hash_length(r->args.bytes, r->args.len), for_remote, is_later, r->time, r->header.number, r->header.index,
+        r->header.length, r->current.number, r->current.index, r->current.length, r->local_amount.low, r->local_amount.high,
+        r->remote_amount.low, r->remote_amount.high, r->args.bytes, r->args.len, r->tlcs.bytes, r->tlcs.len, r->local_key.bytes,
         r->local_key.len, r->remote_key.bytes, r->remote_key.len, r->tracked.bytes, r->tracked.len, r->preimages.bytes,
         r->preimages.len, r->witness.bytes, r->witness.len, out, out_len, answer, answer_len);
 }

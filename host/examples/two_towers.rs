@@ -122,19 +122,20 @@ impl Tower {
         let mut preimages = vec![];
         let mut tlcs = vec![];
         for (place, payment) in channel.payments.iter().enumerate() {
-            let pair = Preimage::of(payment.algorithm, [place as u8 + 1; 32])?;
-            if payment.is_known && payment.from != who {
-                preimages.push(pair);
-            }
-            tlcs.push(SettlementTlc {
+            let preimage = [place as u8 + 1; 32];
+            let tlc = SettlementTlc {
                 offered_by: side(payment.from),
                 algorithm: payment.algorithm,
                 amount: payment.amount,
-                payment_hash: pair.hash,
+                payment_hash: payment.algorithm.hash(&preimage)?,
                 expiry_ms: payment.expiry_ms,
                 our_key: key(who, place + 1),
                 their_key: key(them, place + 1),
-            });
+            };
+            if payment.is_known && payment.from != who {
+                preimages.push(tlc.preimage(preimage)?);
+            }
+            tlcs.push(tlc);
         }
         let balances = Balances {
             our_amount: channel.shares[who as usize],
@@ -155,6 +156,10 @@ impl Tower {
         let witness = Witness::from_chain(on_chain, &chain.args)?;
         assert!(witness.spends(args_before), "the witness opens the cell before");
         assert!(witness.state_matches(&chain.args), "the witness made this cell");
+        let all = TrackedTlcs::first(&self.tlcs, chain.args.hash_length())?;
+        for shown in witness.preimages() {
+            assert!(all.iter().any(|(hash, _)| hash == shown.hash()), "a preimage of this commitment");
+        }
         let tracked = TrackedTlcs::standing(&self.tlcs, witness.left())?;
         self.ask(chain, Some(&witness), &tracked, &witness.owed(self.tlcs.commitment()))
     }
@@ -173,13 +178,18 @@ impl Tower {
             balances: &self.balances,
             preimages: &self.preimages,
             witness,
-            time: MedianTime::from_millis(chain.median_ms),
+            time: MedianTime::from_millis(chain.median_ms)?,
             cell_epoch: chain.cell_epoch,
             tip_epoch: chain.tip_epoch,
         };
         let mut out = vec![0; request.output_length()];
         match choose(&request, &mut out)? {
-            Outcome::Wait(Cause::NothingQualifies | Cause::NotOurShare) => Ok(None),
+            Outcome::Wait(Cause::NothingQualifies) => Ok(None),
+            // Our share was paid out. What still stands goes with the other side's last settlement.
+            Outcome::Wait(Cause::NotOurShare) => {
+                assert_eq!(owed.our_share, 0, "a share that was paid out");
+                Ok(None)
+            }
             Outcome::Wait(cause) => Err(cause.to_string().into()),
             Outcome::Unlock(chosen) => self.send(&chosen, chain, owed).map(Some),
         }
@@ -200,12 +210,16 @@ impl Tower {
                 format!("TLC {place} of {} by {}", owed.tlcs.len(), way_name(way))
             }
         };
+        // A host looks its secret up by the public key.
+        let number = if let Key::OfTlc(place) = chosen.key { place + 1 } else { 0 };
+        assert_eq!(chosen.signer(), &key(self.who, number), "the own key signs");
         let owed = owed.sum().ok_or("a sum that passes 128 bits")?;
         // The last settlement pays out the whole cell, and makes no other.
-        let (paid, next, last) = match chosen.is_last() {
-            true => (owed, None, ", and this is the last"),
-            false => (chosen.amount, Some(chosen.new_args), ""),
+        let (paid, next, last) = match chosen.new_args() {
+            None => (owed, None, ", and this is the last"),
+            Some(next) => (chosen.amount, Some(*next), ""),
         };
+        assert_eq!(chosen.is_last(), next.is_none());
         let text = format!("{:?} takes {what}: {paid} of the {owed} that are owed{last}", self.who);
         Ok(Sent { witness: chosen.signed_witness(&[9; 65]), next, owed, paid, text })
     }

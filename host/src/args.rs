@@ -65,6 +65,9 @@ impl HashLength {
 /// | 56 | 0 in the commitment transaction's own cell, 1 in a cell that a settlement transaction made |
 /// | 57 | features, in args of 58 bytes: 1, records hold whole payment hashes |
 ///
+/// The reference writes the 1 of byte 56, and tells the first settlement by the cell's out point: a tower that knows
+/// the out point of the commitment transaction's cell compares it with [`is_first`](LockArgs::is_first).
+///
 /// ```
 /// use fiber_settlement::{ArgsError, Epoch, HashLength, LockArgs};
 ///

@@ -2,11 +2,12 @@
 
 use std::fmt;
 
+use crate::hash::PublicKey;
 use crate::layout as l;
 use crate::preimage::{flat, Preimage};
 use crate::state::{first_parts, Balances};
-use crate::{c, first_state, Cause, Commitment, Epoch, LockArgs, MedianTime, Refusal};
-use crate::{SettlementTlcs, TrackedTlcs, Witness, CHAIN_PREFIX};
+use crate::{c, first_state, key_hash, Cause, Commitment, Epoch, LockArgs, MedianTime, Refusal};
+use crate::{SettlementTlcs, Share, Side, State, TrackedTlcs, Witness, CHAIN_PREFIX};
 
 // ---- What is asked ----
 
@@ -34,12 +35,15 @@ use crate::{SettlementTlcs, TrackedTlcs, Witness, CHAIN_PREFIX};
 #[derive(Clone, Copy, Debug)]
 pub struct Request<'a> {
     /// The lock args of the cell that is to be spent.
+    ///
+    /// Is the commitment revoked? A commitment of theirs whose number ([`LockArgs::commitment_number`]) is at or below
+    /// the last one that they revoked is answered by a revocation, not by a settlement. Nothing here looks at that.
     pub args: &'a LockArgs,
     /// The settlement TLCs of the commitment, all of them in a later settlement too.
     pub tlcs: &'a SettlementTlcs,
     /// The TLCs that stand in the cell.
     pub tracked: &'a TrackedTlcs,
-    /// What both sides own by the commitment, and their settlement keys.
+    /// What both sides own by the commitment, and their settlement keys. A later settlement looks at the keys alone.
     pub balances: &'a Balances,
     /// The stored preimages.
     pub preimages: &'a [Preimage],
@@ -47,7 +51,7 @@ pub struct Request<'a> {
     pub witness: Option<&'a Witness<'a>>,
     /// The tip's median block time.
     pub time: MedianTime,
-    /// The epoch of the header of the block that holds the cell.
+    /// The epoch of the header of the block that holds the cell. A later settlement looks at neither epoch.
     pub cell_epoch: Epoch,
     /// The epoch of the tip's header.
     pub tip_epoch: Epoch,
@@ -74,19 +78,31 @@ impl<'a> Request<'a> {
         if self.tracked.hash_length() != hash_length || !self.tracked.is_from(self.tlcs) {
             return Err(Refusal::Mixed { part: "tracked list" });
         }
-        let matches = match self.witness {
-            Some(_) if self.args.is_first() => return Err(Refusal::WitnessOfFirst),
-            None if self.args.is_later() => return Err(Refusal::WitnessMissing),
-            Some(witness) if witness.hash_length() != hash_length => {
-                return Err(Refusal::Mixed { part: "witness" });
-            }
-            Some(witness) => witness.state_matches(self.args),
-            None if self.is_after_tip() => return Err(Refusal::CellAfterTip),
-            None => first_state(hash_length, self.tlcs, self.balances)?.matches(self.args),
-        };
-        match matches {
-            true => Ok(()),
-            false => Err(Refusal::StateDiffers),
+        match self.witness {
+            Some(_) if self.args.is_first() => Err(Refusal::WitnessOfFirst),
+            None if self.args.is_later() => Err(Refusal::WitnessMissing),
+            Some(witness) if witness.hash_length() != hash_length => Err(Refusal::Mixed { part: "witness" }),
+            Some(witness) => self.check_state(witness.left()),
+            None if self.is_after_tip() => Err(Refusal::CellAfterTip),
+            None => self.check_state(&first_state(hash_length, self.tlcs, self.balances)?),
+        }
+    }
+
+    /// Holds the state against the lock args, then the settlement keys and the tracked list against the state. A first
+    /// state is made with the keys, so it has them.
+    fn check_state(&self, state: &State) -> Result<(), Refusal> {
+        if !state.matches(self.args) {
+            return Err(Refusal::StateDiffers);
+        }
+        let share = |side| state.shares().of_side(side, self.commitment());
+        if !is_paid_or_of(share(Side::Us), &self.balances.our_key)?
+            || !is_paid_or_of(share(Side::Them), &self.balances.their_key)?
+        {
+            return Err(Refusal::KeysDiffer);
+        }
+        match self.tracked.differs(state.tlcs()) {
+            Some(place) => Err(Refusal::TrackedDiffers { place }),
+            None => Ok(()),
         }
     }
 
@@ -112,6 +128,11 @@ impl<'a> Request<'a> {
     }
 }
 
+/// Does the slot have the hash of this key, or zeros?
+fn is_paid_or_of(share: Share, key: &PublicKey) -> Result<bool, Refusal> {
+    Ok(share.is_paid() || share.key_hash == key_hash(key)?)
+}
+
 // ---- What is answered ----
 
 /// What a choice comes to.
@@ -127,7 +148,12 @@ pub enum Outcome<'a, 'o> {
 /// What is unlocked.
 #[derive(Clone, Copy, Debug, PartialEq, Eq, Hash)]
 pub enum Unlocked {
-    /// Our share.
+    /// Our share. It is chosen only when no TLC of ours can be waited for any more: all that stand were offered by them
+    /// and have expired without a preimage here. In the last settlement it is chosen whatever stands
+    /// ([`Chosen::is_last`]).
+    ///
+    /// Once it is taken the core, as the reference, takes no TLC of this cell any more, also with a preimage that comes
+    /// later, and the other side's next settlement takes the whole cell.
     OurShare,
     /// A TLC.
     Tlc {
@@ -155,7 +181,8 @@ pub enum Way {
 pub enum Key {
     /// Our settlement key.
     Settlement,
-    /// Our key of the settlement TLC at this place of [`Request::tlcs`].
+    /// Our key of the settlement TLC at this place of [`Request::tlcs`]. That is not its place in the state, where
+    /// settled TLCs are gone: [`Chosen::signer`] has the key itself.
     OfTlc(usize),
 }
 
@@ -166,10 +193,11 @@ pub enum Key {
 pub struct Chosen<'a, 'o> {
     /// What is unlocked.
     pub unlocks: Unlocked,
-    /// The TLC's amount, or the share's. In the last settlement the whole cell is paid out instead
-    /// ([`is_last`](Chosen::is_last)).
+    /// The TLC's amount, or the share's. The reference subtracts it from the cell's capacity, of a UDT cell from its
+    /// tokens, and the rest is the next cell's: so it is in shannons, or in the UDT's smallest unit. In the last
+    /// settlement all of it goes out ([`is_last`](Chosen::is_last)).
     pub amount: u128,
-    /// Which key signs.
+    /// Which key signs, by where it was handed in. [`signer`](Chosen::signer) is the key.
     pub key: Key,
     /// The delay that the commitment input has to wait for. `None` in a later settlement.
     pub delay: Option<Epoch>,
@@ -180,13 +208,26 @@ pub struct Chosen<'a, 'o> {
     pub unlock: &'o [u8],
     /// The state before the unlock.
     pub state: &'o [u8],
-    /// The lock args of the cell that is made. In the last settlement none is.
-    pub new_args: LockArgs,
+    new_args: LockArgs,
+    signer: &'a PublicKey,
     last: bool,
     time: MedianTime,
 }
 
-impl Chosen<'_, '_> {
+impl<'a> Chosen<'a, '_> {
+    /// The lock args of the next cell, which is the transaction's first output. `None`: this is the last settlement,
+    /// which makes no such cell and pays out all of the old one ([`is_last`](Chosen::is_last)).
+    pub fn new_args(&self) -> Option<&LockArgs> {
+        (!self.last).then_some(&self.new_args)
+    }
+
+    /// Our public key that has to sign: the settlement key, or our key of the settlement TLC that [`key`](Chosen::key)
+    /// names. A host looks its secret up by it, and by no place: a place in the settlement TLC list is not the place in
+    /// the state.
+    pub const fn signer(&self) -> &'a PublicKey {
+        self.signer
+    }
+
     /// Is this the last settlement? The other party's share was paid out before, so all that is in the cell is ours,
     /// TLCs that still stand included. The reference then makes no successor cell, and pays out the cell's whole
     /// capacity, of a UDT cell all its tokens as well: not [`amount`](Chosen::amount) alone.
@@ -195,6 +236,10 @@ impl Chosen<'_, '_> {
     }
 
     /// The since of the commitment input: the delay as a relative epoch, 0 in a later settlement.
+    ///
+    /// Of a scaled delay the index can equal the length (2/3 of 1 + 300/601 is 0 + 901/901), and such a since the chain
+    /// turns down (CKB RFC 0030). It is handed out as the reference makes it. Its value is that of the next whole number
+    /// with 0/1, here 1 + 0/1, which a host may set instead.
     pub fn input_since(&self) -> u64 {
         self.delay.map_or(0, Epoch::to_since)
     }
@@ -211,7 +256,7 @@ impl Chosen<'_, '_> {
     /// The witness of the commitment input as it goes on chain: the 16 bytes in front, the unlock count 1, the state,
     /// and the unlock with its signature in place.
     ///
-    /// The key that [`key`](Chosen::key) names signs, in the reference, the CKB hash of the raw transaction with its
+    /// The key of [`signer`](Chosen::signer) signs, in the reference, the CKB hash of the raw transaction with its
     /// cell deps left out: no witness is in it, so the signature can be put in last. A signature is r and s, 64
     /// bytes, and the recovery id. For a size or a fee ask with zeros.
     pub fn signed_witness(&self, signature: &[u8; l::SIGNATURE]) -> Vec<u8> {
@@ -228,7 +273,7 @@ impl fmt::Debug for Chosen<'_, '_> {
             .field("key", &self.key)
             .field("delay", &self.delay)
             .field("last", &self.last)
-            .field("new_args", &self.new_args)
+            .field("new_args", &self.new_args())
             .finish_non_exhaustive()
     }
 }
@@ -239,8 +284,10 @@ impl fmt::Debug for Chosen<'_, '_> {
 /// `out`, joined. Behind them `out` is not changed; a wait or a refusal changes no byte of it.
 ///
 /// Before the library is asked the state is held against the lock args: in a first settlement the one that settlement
-/// TLCs, balances and commitment give, in a later one the one that the witness left. A list in the wrong view,
-/// amounts or keys of the wrong side, or a witness of another cell do not get past that.
+/// TLCs, balances and commitment give, in a later one the one that the witness left. Then the settlement keys and the
+/// tracked list are held against the state. A list in the wrong view, keys of the wrong side, a tracked list or a
+/// witness of another cell do not get past that, nor, in a first settlement, amounts of the wrong side. In a later
+/// settlement the balances' amounts and both epochs are not looked at.
 ///
 /// ```
 /// use fiber_settlement::*;
@@ -262,17 +309,24 @@ impl fmt::Debug for Chosen<'_, '_> {
 ///     balances: &balances,
 ///     preimages: &[],
 ///     witness: None,
-///     time: MedianTime::from_millis(1_700_000_000_000),
+///     time: MedianTime::from_millis(1_700_000_000_000)?,
 ///     cell_epoch: Epoch::new(10, 0, 1)?,
 ///     tip_epoch: Epoch::new(13, 0, 1)?,
 /// };
 /// let mut out = vec![0; request.output_length()];
-/// let Outcome::Unlock(chosen) = choose(&request, &mut out)? else { panic!("not due") };
-/// assert_eq!((chosen.unlocks, chosen.amount), (Unlocked::OurShare, 7));
-/// assert_eq!((chosen.key, chosen.input_since()), (Key::Settlement, args.delay()?.to_since()));
-/// assert!(!chosen.is_last() && chosen.new_args.is_later());
-/// let on_chain = chosen.signed_witness(&[9; 65]);
-/// assert!(Witness::from_chain(&on_chain, &args)?.state_matches(&chosen.new_args));
+/// match choose(&request, &mut out)? {
+///     Outcome::Wait(cause) => println!("{cause}"), // an ordinary answer: ask again at the next tip
+///     Outcome::Unlock(chosen) => {
+///         assert_eq!((chosen.unlocks, chosen.amount), (Unlocked::OurShare, 7));
+///         assert_eq!((chosen.signer(), chosen.input_since()), (&[2; 33], args.delay()?.to_since()));
+///         let on_chain = chosen.signed_witness(&[9; 65]);
+///         let witness = Witness::from_chain(&on_chain, &args)?;
+///         match chosen.new_args() {
+///             Some(next) => assert!(witness.state_matches(next)), // the next cell's
+///             None => println!("the last settlement: no next cell, and all of this one goes out"),
+///         }
+///     }
+/// }
 ///
 /// // A little earlier there is nothing to do yet.
 /// request.tip_epoch = Epoch::new(12, 999, 1000)?;
@@ -288,16 +342,15 @@ impl fmt::Debug for Chosen<'_, '_> {
 ///
 /// # Errors
 ///
-/// This crate's own first: [`Refusal::Mixed`], [`Refusal::WitnessOfFirst`], [`Refusal::WitnessMissing`], in a first
-/// settlement [`Refusal::CellAfterTip`], [`Refusal::StateDiffers`]. Then the library's: [`Refusal::NoDelay`]; in a
-/// first settlement [`Refusal::LengthZero`]; [`Refusal::TooManyTlcs`]; [`Refusal::OutputShort`], which comes after
-/// the waits.
+/// This crate's own first: [`Refusal::Mixed`]; [`Refusal::WitnessOfFirst`]; [`Refusal::WitnessMissing`]; in a first
+/// settlement [`Refusal::CellAfterTip`]; [`Refusal::StateDiffers`]; in a later settlement [`Refusal::KeysDiffer`];
+/// [`Refusal::TrackedDiffers`]. Then the library's: [`Refusal::NoDelay`]; in a first settlement
+/// [`Refusal::LengthZero`]; [`Refusal::TooManyTlcs`]; [`Refusal::OutputShort`], which comes after the waits.
 pub fn choose<'a, 'o>(request: &Request<'a>, out: &'o mut [u8]) -> Result<Outcome<'a, 'o>, Refusal> {
     c::ready()?;
     request.check()?;
-    let parts = request.parts();
-    match c::choose(&parts, out) {
-        Ok(answer) => Ok(Outcome::Unlock(chosen(&Fields(answer), &parts, out)?)),
+    match c::choose(&request.parts(), out) {
+        Ok(answer) => Ok(Outcome::Unlock(chosen(&Fields(answer), request, out)?)),
         Err(code) => Cause::of(code).map(Outcome::Wait).ok_or_else(|| code.into()),
     }
 }
@@ -306,9 +359,9 @@ pub fn choose<'a, 'o>(request: &Request<'a>, out: &'o mut [u8]) -> Result<Outcom
 pub(crate) struct Fields(pub c::Answer<{ l::CHOOSE_ANSWER }>);
 
 /// What is told of a success.
-fn chosen<'a, 'o>(fields: &Fields, parts: &c::Choose<'a>, out: &'o [u8]) -> Result<Chosen<'a, 'o>, Refusal> {
+fn chosen<'a, 'o>(fields: &Fields, request: &Request<'a>, out: &'o [u8]) -> Result<Chosen<'a, 'o>, Refusal> {
     let [unlock, state, args] = fields.joined(out)?;
-    let lent = if parts.is_later == 1 { parts.witness } else { parts.tracked };
+    let lent = request.witness.map_or(request.tracked.as_bytes(), |witness| witness.as_bytes());
     Ok(Chosen {
         unlocks: fields.unlocks()?,
         amount: fields.amount(),
@@ -319,8 +372,9 @@ fn chosen<'a, 'o>(fields: &Fields, parts: &c::Choose<'a>, out: &'o [u8]) -> Resu
         state,
         new_args: LockArgs::parse(args)
             .map_err(|_| fields.odd("CHOOSE_ARGS_LENGTH", l::CHOOSE_ARGS_LENGTH))?,
+        signer: fields.signer(request.tlcs, request.balances)?,
         last: fields.last()?,
-        time: MedianTime::from_millis(parts.time),
+        time: request.time,
     })
 }
 
@@ -352,6 +406,20 @@ impl Fields {
             l::KEY_OURS => Ok(Key::Settlement),
             l::KEY_OF_TLC => Ok(Key::OfTlc(self.0.place(l::CHOOSE_KEY_PLACE))),
             _ => Err(self.odd("CHOOSE_KEY_KIND", l::CHOOSE_KEY_KIND)),
+        }
+    }
+
+    /// The key that has to sign, in what was lent.
+    pub fn signer<'a>(
+        &self,
+        tlcs: &'a SettlementTlcs,
+        balances: &'a Balances,
+    ) -> Result<&'a PublicKey, Refusal> {
+        match self.key()? {
+            Key::Settlement => Ok(&balances.our_key),
+            Key::OfTlc(place) => {
+                tlcs.our_key(place).ok_or_else(|| self.odd("CHOOSE_KEY_PLACE", l::CHOOSE_KEY_PLACE))
+            }
         }
     }
 

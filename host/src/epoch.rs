@@ -15,6 +15,10 @@ const ABSOLUTE_TIME: u64 = 0x4000_0000_0000_0000;
 const VALUE: u64 = 0x00FF_FFFF_FFFF_FFFF;
 /// The largest number of an epoch, 24 bits.
 const MOST: u32 = 0x00FF_FFFF;
+/// The first time that is taken, in 2017: CKB's first block is of 2019.
+const FIRST_MS: u64 = 1_500_000_000_000;
+/// The first time that is not taken any more, in 2286.
+const END_MS: u64 = 10_000_000_000_000;
 
 /// An epoch: number + index / length, as CKB RFC 0017 packs it (24, 16 and 16 bits). A delay is one too. Two are
 /// equal here if all three numbers are; [`is_due`] compares by value.
@@ -42,7 +46,8 @@ pub struct Epoch {
 }
 
 impl Epoch {
-    /// The epoch number + index / length. The index may exceed the length.
+    /// The epoch number + index / length. The index may exceed the length. The epoch of a block header, which is one
+    /// packed number, is read by [`from_header_epoch`](Epoch::from_header_epoch).
     ///
     /// # Errors
     ///
@@ -185,13 +190,36 @@ pub fn expiry(since: u64) -> Result<Option<u64>, Refusal> {
 ///
 /// It comes from the node, by the RPC `get_block_median_time` with the tip's hash, in milliseconds. The wall clock
 /// runs ahead of it by minutes, so that a choice made by it names TLCs whose transaction the chain still rejects.
+///
+/// A clock that is ahead also takes our share too early. That the chain does not turn down, since nothing in that
+/// transaction carries a time, and TLCs whose preimage is still to come are lost then
+/// ([`Unlocked::OurShare`](crate::Unlocked::OurShare)).
+///
+/// ```
+/// use fiber_settlement::{MedianTime, TimeError};
+///
+/// assert_eq!(MedianTime::from_millis(1_700_000_000_000)?.millis(), 1_700_000_000_000);
+/// assert_eq!(MedianTime::from_millis(1_700_000_000), Err(TimeError::Below(1_700_000_000))); // in seconds
+/// # Ok::<(), TimeError>(())
+/// ```
 #[derive(Clone, Copy, Debug, PartialEq, Eq, PartialOrd, Ord, Hash)]
 pub struct MedianTime(u64);
 
 impl MedianTime {
     /// The answer of `get_block_median_time` for the tip, in milliseconds.
-    pub const fn from_millis(milliseconds: u64) -> MedianTime {
-        MedianTime(milliseconds)
+    ///
+    /// # Errors
+    ///
+    /// [`TimeError::Below`] before CKB's first block, as a number of seconds is; [`TimeError::Above`] from the year
+    /// 2286 on, as a number of microseconds or nanoseconds is.
+    pub const fn from_millis(milliseconds: u64) -> Result<MedianTime, TimeError> {
+        if milliseconds < FIRST_MS {
+            return Err(TimeError::Below(milliseconds));
+        }
+        if milliseconds >= END_MS {
+            return Err(TimeError::Above(milliseconds));
+        }
+        Ok(MedianTime(milliseconds))
     }
 
     /// In milliseconds.
@@ -237,3 +265,32 @@ impl fmt::Display for EpochError {
 }
 
 impl Error for EpochError {}
+
+/// A number that is no median block time in milliseconds.
+#[derive(Clone, Copy, Debug, PartialEq, Eq, Hash)]
+#[non_exhaustive]
+pub enum TimeError {
+    /// It is before CKB's first block: below 1,500,000,000,000.
+    Below(u64),
+    /// It is in the year 2286 or later: 10,000,000,000,000 or more.
+    Above(u64),
+}
+
+impl fmt::Display for TimeError {
+    fn fmt(&self, f: &mut fmt::Formatter<'_>) -> fmt::Result {
+        match self {
+            TimeError::Below(time) => write!(
+                f,
+                "the time {time} is before CKB's first block (is it in seconds?); hand in the tip's median block time \
+                 in milliseconds"
+            ),
+            TimeError::Above(time) => write!(
+                f,
+                "the time {time} is in the year 2286 or later (is it in microseconds or nanoseconds?); hand in the \
+                 tip's median block time in milliseconds"
+            ),
+        }
+    }
+}
+
+impl Error for TimeError {}

@@ -25,9 +25,15 @@ impl Algorithm {
     ///
     /// [`Refusal::Abi`] alone.
     pub fn hash(self, bytes: &[u8]) -> Result<Hash, Refusal> {
+        c::ready()?;
+        Ok(self.hashed(bytes))
+    }
+
+    /// As [`hash`](Algorithm::hash), where the version was looked at before.
+    pub(crate) fn hashed(self, bytes: &[u8]) -> Hash {
         match self {
-            Algorithm::Ckb => ckb_hash(bytes),
-            Algorithm::Sha256 => sha256(bytes),
+            Algorithm::Ckb => c::ckb_hash(bytes),
+            Algorithm::Sha256 => c::sha256(bytes),
         }
     }
 }

@@ -27,12 +27,14 @@
 //!    the first.
 //! 2. Whose commitment is it? [`LockArgs::is_of`] tells by the aggregated funding key: [`Commitment::Ours`] or
 //!    [`Commitment::Theirs`].
-//! 3. [`SettlementTlcs::new`] takes the TLCs that were stored with the commitment, each with who offered it.
-//! 4. Of a cell that a settlement transaction made, [`Witness::from_chain`] reads that transaction's witness.
-//! 5. [`TrackedTlcs`]: which TLCs stand in the cell, with their whole hashes.
-//! 6. [`choose`] answers [`Outcome::Wait`], or [`Outcome::Unlock`] with the unlock, the key that signs, the input's
+//! 3. Is the commitment revoked? A commitment of theirs whose number ([`LockArgs::commitment_number`]) is at or below
+//!    the last one that they revoked is answered by a revocation, not by a settlement: stop here.
+//! 4. [`SettlementTlcs::new`] takes the TLCs that were stored with the commitment, each with who offered it.
+//! 5. Of a cell that a settlement transaction made, [`Witness::from_chain`] reads that transaction's witness.
+//! 6. [`TrackedTlcs`]: which TLCs stand in the cell, with their whole hashes.
+//! 7. [`choose`] answers [`Outcome::Wait`], or [`Outcome::Unlock`] with the unlock, the key that signs, the input's
 //!    since and the next cell's lock args.
-//! 7. The host builds the transaction and signs, and [`Chosen::signed_witness`] makes the bytes that go on chain.
+//! 8. The host builds the transaction and signs, and [`Chosen::signed_witness`] makes the bytes that go on chain.
 //!
 //! The example two_towers (`cargo run --example two_towers`) does all of it for both sides of a made-up channel, till
 //! nothing stands. The example of [`choose`] is the shortest.
@@ -116,22 +118,33 @@
 //!
 //! A list in the wrong view is a list like any other, and by it a tower pays the other side without an error. The
 //! lock args can tell: [`choose`] makes the state and goes on only if the args have its hash
-//! ([`Refusal::StateDiffers`]).
+//! ([`Refusal::StateDiffers`]). Against that state it holds the tracked list ([`Refusal::TrackedDiffers`]) and, in a
+//! later settlement, where the state comes from the witness, both settlement keys ([`Refusal::KeysDiffer`]).
 //!
 //! # Which time, which epochs
 //!
 //! [`Request::time`] is the median block time of the tip in milliseconds (the RPC `get_block_median_time` with the
-//! tip's hash), not the wall clock: the chain judges an expiry by the former. [`Request::cell_epoch`] is the epoch of
-//! the header of the block that holds the cell, [`Request::tip_epoch`] that of the tip's header;
-//! [`Epoch::from_header_epoch`] takes the field as it is. The delay comes from the lock args. A first settlement
-//! takes TLCs by preimage after a third of the delay, by timeout after two thirds, and our share after the whole, once
-//! no TLC is left that could be ours; later ones have no delay.
+//! tip's hash), not the wall clock: the chain judges an expiry by the former, and by a clock that is ahead our share is
+//! taken too early, which no chain turns down ([`MedianTime`]). [`Request::cell_epoch`] is the epoch of the header of
+//! the block that holds the cell, [`Request::tip_epoch`] that of the tip's header; [`Epoch::from_header_epoch`] takes
+//! the field as it is. The delay comes from the lock args. A first settlement takes TLCs by preimage after a third of
+//! the delay, by timeout after two thirds, and our share after the whole, once no TLC of ours can be waited for any
+//! more; later ones have no delay, and look at neither epoch.
 //!
 //! # The last settlement
 //!
 //! Where the other party's share was paid out before, our share is chosen whatever TLCs still stand, and
 //! [`Chosen::is_last`] says so. The reference then makes no successor cell and pays out the cell's whole capacity, of
-//! a UDT cell all its tokens too. A host that pays [`Chosen::amount`] alone there leaves the rest behind.
+//! a UDT cell all its tokens too. A host that pays [`Chosen::amount`] alone there leaves the rest behind:
+//! [`Chosen::new_args`] is `None` there and nowhere else.
+//!
+//! Before that our share is chosen only when no TLC of ours can be waited for any more: all that stand were offered by
+//! them and have expired without a preimage here. Once our share is taken the core, as the reference, takes no TLC of
+//! this cell any more, also with a preimage that comes later, and the other side's next settlement takes the whole
+//! cell.
+//!
+//! So this is how the end looks: after the last settlement there is no cell; after our share was paid out a choice
+//! answers [`Cause::NotOurShare`], until the other side's last settlement spends the cell.
 //!
 //! # What to do on each number
 //!
@@ -139,17 +152,17 @@
 //!
 //! | Number | Case | What to do |
 //! |---|---|---|
-//! | 1 to 6 | [`Refusal::WitnessShort`], [`TlcCut`](Refusal::TlcCut), [`SharesCut`](Refusal::SharesCut), [`UnlockCut`](Refusal::UnlockCut), [`UnlockUnknown`](Refusal::UnlockUnknown), [`SettledTwice`](Refusal::SettledTwice) | These bytes are no witness of this channel: is it the right input's, and are the args the cell's? The same bytes get the same answer again. |
+//! | 1 to 6 | [`Refusal::WitnessShort`], [`TlcCut`](Refusal::TlcCut), [`SharesCut`](Refusal::SharesCut), [`UnlockCut`](Refusal::UnlockCut), [`UnlockUnknown`](Refusal::UnlockUnknown), [`SettledTwice`](Refusal::SettledTwice) | These bytes are no settlement witness of this channel: is it the witness at the index of the input that spends the commitment cell, is the 16-byte prefix cut once, is h that of the cell's args? A revocation's witness is no settlement witness. The same bytes get the same answer again. |
 //! | 7 | [`Refusal::LengthZero`] | An epoch that was handed in, or the delay in the args, has length 0: do the epochs come from headers? |
 //! | 8 | [`Refusal::ScaledAbove`] | A fraction of an epoch passes its bounds. No choice says so. |
 //! | 10, 11 | [`Refusal::ArgsShort`], [`NoDelay`](Refusal::NoDelay) | Not the args of a commitment cell: leave the cell. |
 //! | 12 | [`Refusal::TooManyTlcs`] | More than 254 TLCs, and no unlock byte names the last: tell an operator. A later settlement goes on as soon as an unlock has settled one. |
 //! | 13 | [`Refusal::OutputShort`] | Lend as many bytes as it says ([`Request::output_length`] does) and ask again. |
 //! | 14 | [`Refusal::NotWell`] | The call is wrong. The types of this crate make no such call. |
-//! | 20 | [`Cause::ListDiffers`] | Wait. The tracked list is not what stands in the cell: scan the chain again. |
-//! | 21 | [`Cause::NotOurShare`] | Wait. Our share was paid out, and nothing is left for us; or the key is not this channel's. |
-//! | 22 | [`Cause::NothingQualifies`] | Wait. Ask again at the next tip. |
-//! | none | the other cases of [`Refusal`] | This crate turned it down before the library was asked: parts that do not belong to one cell. |
+//! | 20 | [`Cause::ListDiffers`] | Wait. The tracked list is not what stands in the cell: scan the chain again. [`choose`] looks at that first, and says [`Refusal::TrackedDiffers`]. |
+//! | 21 | [`Cause::NotOurShare`] | Wait. Our share was paid out, and no TLC of this cell is taken any more: leave the cell. |
+//! | 22 | [`Cause::NothingQualifies`] | Wait. Ask again at the next tip. Where this stays past the delay and all expiries: is `cell_epoch` that of the cell's own block, and `time` the tip's median time? |
+//! | none | the other cases of [`Refusal`] | This crate turned it down before the library was asked: parts that do not belong to one cell, or a preimage that is not the TLC's. |
 //!
 //! # What stays a host's duty
 //!
@@ -159,10 +172,11 @@
 //! - The settlement TLCs in the commitment's order, all of them in later settlements too. Which stored list it is,
 //!   where there are several of one commitment number, the state hash tells ([`first_state`], [`State::matches`]).
 //! - Time and epochs from one node at one tip.
-//! - Preimages whose hash was looked at ([`Preimage::of`]), and those that other unlocks show ([`Unlock::preimage`]).
-//! - The transaction: the next cell with [`Chosen::new_args`] is its first output, unless it is the last settlement;
-//!   the commitment input has [`Chosen::input_since`], the others [`Chosen::other_inputs_since`]; the key that
-//!   [`Chosen::key`] names signs.
+//! - Preimages whose hash was looked at ([`SettlementTlc::preimage`]), and those that other settlements show
+//!   ([`Witness::preimages`]).
+//! - The transaction: the next cell with [`Chosen::new_args`] is its first output, with what the old cell held less
+//!   [`Chosen::amount`], unless it is the last settlement; the commitment input has [`Chosen::input_since`], the others
+//!   [`Chosen::other_inputs_since`]; the key of [`Chosen::signer`] signs.
 //! - A commitment that was revoked is not settled but answered with the revocation, which is not in this crate.
 
 #![warn(missing_docs)]
@@ -183,7 +197,7 @@ mod witness;
 
 pub use args::{ArgsError, HashLength, LockArgs};
 pub use choose::{choose, Chosen, Key, Outcome, Request, Unlocked, Way};
-pub use epoch::{expiry, is_due, Epoch, EpochError, MedianTime};
+pub use epoch::{expiry, is_due, Epoch, EpochError, MedianTime, TimeError};
 pub use hash::{ckb_hash, key_hash, sha256, Algorithm, Hash, KeyHash, PublicKey};
 pub use preimage::Preimage;
 pub use record::{Share, Shares, Tlc, Tlcs};

@@ -9,7 +9,9 @@ use crate::Refusal;
 /// A stored preimage: a pair of hash and preimage. A list of them, `&[Preimage]`, is lent to the library as it lies.
 ///
 /// Of several pairs with one hash the first alone is looked at, and it counts only if its preimage has that hash
-/// under the TLC's algorithm. So a wrong pair in front of a right one hides it: store what [`Preimage::of`] makes.
+/// under the TLC's algorithm. So a wrong pair in front of a right one hides it. Pairs that hide none are made by
+/// [`SettlementTlc::preimage`](crate::SettlementTlc::preimage), which looks at the TLC's payment hash, by
+/// [`Preimage::of`], and by [`Witness::preimages`](crate::Witness::preimages).
 ///
 /// `Debug` shows the hash alone. A preimage is money until its TLC is settled, and logs are read by more people than
 /// the store.
@@ -19,16 +21,21 @@ use crate::Refusal;
 ///
 /// let stored = Preimage::of(Algorithm::Sha256, [7; 32])?;
 /// assert!(stored.counts(Algorithm::Sha256)?);
+/// assert_eq!(Preimage::stored(stored.hash(), stored.preimage()), stored);
 /// assert!(!format!("{stored:?}").contains("7, 7"));
 /// # Ok::<(), fiber_settlement::Refusal>(())
+/// ```
+///
+/// Hash and preimage are not put together by their fields:
+///
+/// ```compile_fail,E0451
+/// let pair = fiber_settlement::Preimage { hash: [7; 32], preimage: [7; 32] };
 /// ```
 #[derive(Clone, Copy, PartialEq, Eq, Hash)]
 #[repr(C)]
 pub struct Preimage {
-    /// The payment hash, whole.
-    pub hash: Hash,
-    /// What has this hash.
-    pub preimage: [u8; 32],
+    hash: Hash,
+    preimage: [u8; 32],
 }
 
 // A pair is its 64 bytes: no padding, and any address will do.
@@ -42,6 +49,22 @@ impl Preimage {
     /// [`Refusal::Abi`] alone.
     pub fn of(algorithm: Algorithm, preimage: [u8; 32]) -> Result<Preimage, Refusal> {
         Ok(Preimage { hash: algorithm.hash(&preimage)?, preimage })
+    }
+
+    /// A pair as a store has it. Nothing is looked at here: of several pairs with one hash only the first is looked at
+    /// by a choice, and it counts only under the TLC's algorithm ([`counts`](Preimage::counts)).
+    pub const fn stored(hash: Hash, preimage: [u8; 32]) -> Preimage {
+        Preimage { hash, preimage }
+    }
+
+    /// The payment hash, whole.
+    pub const fn hash(&self) -> Hash {
+        self.hash
+    }
+
+    /// The preimage. It is money until its TLC is settled.
+    pub const fn preimage(&self) -> [u8; 32] {
+        self.preimage
     }
 
     /// Does the preimage have the hash under this algorithm?

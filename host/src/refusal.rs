@@ -109,6 +109,15 @@ pub enum Refusal {
     CellAfterTip,
     /// The state does not have the hash that the lock args name.
     StateDiffers,
+    /// A slot of the state has neither the hash of its side's settlement key nor zeros.
+    KeysDiffer,
+    /// The tracked list is not what stands in the cell.
+    TrackedDiffers {
+        /// The first place that differs, from 0.
+        place: u64,
+    },
+    /// A preimage does not have the payment hash under the TLC's algorithm.
+    PreimageDiffers,
     /// Two parts of a request are of different hash lengths, or the tracked list is of other settlement TLCs.
     Mixed {
         /// The part that differs from the lock args or from the settlement TLCs.
@@ -141,7 +150,8 @@ impl Refusal {
             Refusal::Unknown { number, .. } => number,
             Refusal::Answer { .. } | Refusal::Abi { .. } | Refusal::PrefixMissing | Refusal::PrefixLeft => 0,
             Refusal::WitnessMissing | Refusal::WitnessOfFirst | Refusal::CellAfterTip => 0,
-            Refusal::StateDiffers | Refusal::Mixed { .. } | Refusal::RecordUnknown { .. } => 0,
+            Refusal::StateDiffers | Refusal::KeysDiffer | Refusal::PreimageDiffers => 0,
+            Refusal::TrackedDiffers { .. } | Refusal::Mixed { .. } | Refusal::RecordUnknown { .. } => 0,
         }
     }
 
@@ -152,7 +162,8 @@ impl Refusal {
             Refusal::TlcCut { at } | Refusal::SharesCut { at } | Refusal::UnlockCut { at } => at,
             Refusal::UnlockUnknown { at } | Refusal::SettledTwice { at } => at,
             Refusal::OutputShort { needed } => needed,
-            Refusal::Unknown { place, .. } | Refusal::RecordUnknown { place } => place,
+            Refusal::Unknown { place, .. } => place,
+            Refusal::TrackedDiffers { place } | Refusal::RecordUnknown { place } => place,
             _ => 0,
         }
     }
@@ -194,10 +205,17 @@ impl fmt::Display for Refusal {
                 "the {part} of the request was made for another hash length, commitment or list of settlement TLCs; \
                  make all parts for the cell that is spent"
             ),
+            Refusal::TrackedDiffers { place } => write!(
+                f,
+                "the tracked list differs at place {place} from what stands in the cell; make it with \
+                 TrackedTlcs::first for the commitment transaction's own cell, then with `after` each settlement's \
+                 witness, or with `standing` from the state"
+            ),
             Refusal::RecordUnknown { place } => write!(
                 f,
-                "the record at place {place} is not the one that the settlement TLCs give there; look whose \
-                 commitment it is, who offered each TLC, and whether the list is this commitment's"
+                "the record at place {place} is not the one that the settlement TLCs give there, or a settlement was \
+                 skipped or taken twice; look whose commitment it is, who offered each TLC, and whether the list is \
+                 this commitment's"
             ),
             Refusal::OutputShort { needed } => {
                 write!(f, "the output is too short; lend {needed} bytes and ask again")
@@ -208,9 +226,9 @@ impl fmt::Display for Refusal {
 }
 
 /// What to do about bytes that are no witness of the channel.
-const FETCH: &str =
-    "take the witness at the index of the input that spends the commitment cell, and the hash length \
-                     from that cell's lock args";
+const FETCH: &str = "take the witness at the index of the input that spends the commitment cell, cut its 16-byte \
+                     prefix once, take h from that cell's lock args, and leave a revocation's witness, which is no \
+                     settlement witness";
 
 impl Refusal {
     /// Numbers 1 to 6.
@@ -236,8 +254,8 @@ impl Refusal {
             ),
             _ => write!(
                 f,
-                "the unlock at byte {at} of the witness settles a TLC that an earlier one settled; look where these \
-                 bytes come from, since the state that they leave is not defined"
+                "the unlock at byte {at} of the witness settles a TLC that an earlier one settled, and the state that \
+                 they leave is not defined; {FETCH}"
             ),
         }
     }
@@ -280,8 +298,8 @@ impl Refusal {
                  from the chain; take the one at the index of the input that spends the commitment cell"
             }
             Refusal::PrefixLeft => {
-                "the witness still begins with the 16 bytes that stand in front on chain; cut them off, or read it \
-                 with Witness::from_chain"
+                "the witness still begins with the 16 bytes that stand in front on chain, or had them twice; cut them \
+                 off, or read it as it is on chain with Witness::from_chain"
             }
             Refusal::WitnessMissing => {
                 "the lock args say that a settlement transaction made the cell; hand in the witness of that \
@@ -294,6 +312,15 @@ impl Refusal {
             Refusal::CellAfterTip => {
                 "the epoch of the cell's block is after that of the tip; look whether the two are swapped, or fetch \
                  the tip again"
+            }
+            Refusal::KeysDiffer => {
+                "the settlement keys are not those of this cell: our slot has neither the hash of our_key nor zeros, \
+                 or the other slot neither that of their_key nor zeros; look whether our_key and their_key are \
+                 swapped, or whose commitment it is"
+            }
+            Refusal::PreimageDiffers => {
+                "the preimage does not have the TLC's payment hash under the TLC's algorithm; look whether it is of \
+                 this payment, and how the payment hash was made"
             }
             _ => {
                 "the state does not have the hash that the lock args name, so acting on it could pay the other side; \
@@ -339,11 +366,15 @@ impl Error for Refusal {}
 #[derive(Clone, Copy, Debug, PartialEq, Eq, Hash)]
 #[non_exhaustive]
 pub enum Cause {
-    /// 20: the tracked list differs from the TLCs that stand.
+    /// 20: the tracked list differs from the TLCs that stand. [`choose`](crate::choose) looks at that before the
+    /// library is asked ([`Refusal::TrackedDiffers`]), so it does not answer this.
     ListDiffers,
-    /// 21: our share is not there.
+    /// 21: our share was paid out. From then on the core, as the reference, takes no TLC of this cell any more, also
+    /// with a preimage that comes later; the other side's next settlement takes the whole cell.
     NotOurShare,
-    /// 22: nothing qualifies yet.
+    /// 22: nothing qualifies yet. Where this stays past the delay and all expiries, look whether
+    /// [`Request::cell_epoch`](crate::Request::cell_epoch) is that of the cell's own block and
+    /// [`Request::time`](crate::Request::time) the tip's median time.
     NothingQualifies,
 }
 
@@ -381,11 +412,13 @@ impl fmt::Display for Cause {
                  whose commitment it is"
             }
             Cause::NotOurShare => {
-                "wait: our share is not there; if it was paid out nothing is left for us, else look whose commitment it is \
-                 and whether the settlement key is this channel's"
+                "wait: our share was paid out, and after it no TLC of this cell is taken any more, also with a \
+                 preimage that comes later; leave the cell, which the other side's next settlement takes whole"
             }
             Cause::NothingQualifies => {
-                "wait: no delay, no expiry and no preimage allows an unlock yet; ask again at the next tip"
+                "wait: no delay, no expiry and no preimage allows an unlock yet; ask again at the next tip, and where \
+                 this stays past the delay and all expiries, look whether cell_epoch is that of the cell's own block \
+                 and the time the tip's median time"
             }
         })
     }

@@ -52,7 +52,7 @@ impl State {
         Shares::new(&self.bytes[self.share_place()..])
     }
 
-    /// What is owed to whom.
+    /// What is owed to whom. With the wrong commitment everything is turned round: what is ours is told as theirs.
     pub fn owed(&self, commitment: Commitment) -> Owed {
         let shares = self.shares();
         let tlcs = self.tlcs().map(|tlc| OwedTlc {

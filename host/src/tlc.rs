@@ -3,7 +3,7 @@
 use crate::hash::{Algorithm, Hash, PublicKey};
 use crate::layout as l;
 use crate::record::part;
-use crate::{c, Commitment, HashLength, Party, Refusal, Side, State, Tlc, Witness};
+use crate::{c, Commitment, HashLength, Party, Preimage, Refusal, Side, State, Tlc, Tlcs, Witness};
 
 /// A TLC as the host stored it with the commitment, in the host's own view.
 ///
@@ -72,6 +72,36 @@ impl SettlementTlc {
         put(l::TLC_REMOTE_KEY, &self.their_key);
         entry
     }
+
+    /// The pair of a preimage of this TLC, which a choice counts for it.
+    ///
+    /// ```
+    /// use fiber_settlement::{Algorithm, Refusal, SettlementTlc, Side};
+    ///
+    /// let tlc = SettlementTlc {
+    ///     offered_by: Side::Them,
+    ///     algorithm: Algorithm::Sha256,
+    ///     amount: 100,
+    ///     payment_hash: Algorithm::Sha256.hash(&[7; 32])?,
+    ///     expiry_ms: 1_700_000_000_000,
+    ///     our_key: [2; 33],
+    ///     their_key: [3; 33],
+    /// };
+    /// assert_eq!(tlc.preimage([7; 32])?.hash(), tlc.payment_hash);
+    /// assert_eq!(tlc.preimage([8; 32]), Err(Refusal::PreimageDiffers));
+    /// # Ok::<(), Refusal>(())
+    /// ```
+    ///
+    /// # Errors
+    ///
+    /// [`Refusal::PreimageDiffers`] where its hash under the TLC's algorithm is not the payment hash.
+    pub fn preimage(&self, preimage: [u8; 32]) -> Result<Preimage, Refusal> {
+        let pair = Preimage::of(self.algorithm, preimage)?;
+        match pair.hash() == self.payment_hash {
+            true => Ok(pair),
+            false => Err(Refusal::PreimageDiffers),
+        }
+    }
 }
 
 /// The settlement TLCs of a commitment, as the library reads them. The list is in the commitment's order and stays
@@ -107,6 +137,12 @@ impl SettlementTlcs {
     /// The list as the library reads it, 124 bytes each.
     pub fn as_bytes(&self) -> &[u8] {
         &self.bytes
+    }
+
+    /// Our public key of the TLC at a place.
+    pub(crate) fn our_key(&self, place: usize) -> Option<&PublicKey> {
+        let entry = self.entries().nth(place)?;
+        entry[l::TLC_LOCAL_KEY..][..l::KEY].try_into().ok()
     }
 
     /// What tells this list from another.
@@ -146,7 +182,13 @@ fn record_of(hash_length: HashLength, commitment: Commitment, entry: &[u8]) -> R
 /// channels, and a preimage has to have all 32.
 ///
 /// A list is made from settlement TLCs only, so that hash, algorithm and record of an entry always belong together: the
-/// library tests the records, and by a wrong hash or algorithm it would miss a preimage without a word.
+/// records are tested against the cell, and by a wrong hash or algorithm a preimage would be missed without a word.
+///
+/// It goes with one cell: [`first`](TrackedTlcs::first) makes that of the commitment transaction's own cell,
+/// [`after`](TrackedTlcs::after) each settlement that of the next, and [`standing`](TrackedTlcs::standing) that of any.
+/// A [`choose`](crate::choose) with that of another cell is turned down ([`Refusal::TrackedDiffers`]). After the last
+/// settlement there is no next cell; after our share was paid out the list goes on, and a choice answers
+/// [`Cause::NotOurShare`](crate::Cause::NotOurShare).
 #[derive(Clone, Debug, PartialEq, Eq, Hash)]
 pub struct TrackedTlcs {
     commitment: Commitment,
@@ -178,16 +220,13 @@ impl TrackedTlcs {
     /// # Errors
     ///
     /// [`Refusal::Mixed`] for a witness of another hash length; [`Refusal::RecordUnknown`] where the witness's TLCs
-    /// are not this list: it does not spend that cell.
+    /// are not this list: it does not spend that cell, or a settlement was skipped or taken twice.
     pub fn after(&self, witness: &Witness) -> Result<TrackedTlcs, Refusal> {
         if witness.hash_length() != self.hash_length {
             return Err(Refusal::Mixed { part: "tracked list" });
         }
-        let (ours, theirs) = (self.len(), witness.tlcs().len());
-        let differ =
-            self.entries().zip(witness.tlcs()).position(|(entry, tlc)| record(entry) != tlc.record());
-        if let Some(place) = differ.or((ours != theirs).then_some(ours.min(theirs))) {
-            return Err(Refusal::RecordUnknown { place: place as u64 });
+        if let Some(place) = self.differs(witness.tlcs()) {
+            return Err(Refusal::RecordUnknown { place });
         }
         let settled: Vec<usize> = witness.unlocks().filter_map(|unlock| unlock.tlc()).collect();
         let left = self.entries().enumerate().filter(|(place, _)| !settled.contains(place));
@@ -225,6 +264,13 @@ impl TrackedTlcs {
     pub fn iter(&self) -> impl ExactSizeIterator<Item = (Hash, Tlc<'_>)> {
         let hash_length = self.hash_length;
         self.entries().map(move |entry| (part(entry, l::TRACKED_HASH), Tlc::new(record(entry), hash_length)))
+    }
+
+    /// The first place where the records are not those of these TLCs, if there is one.
+    pub(crate) fn differs(&self, tlcs: Tlcs) -> Option<u64> {
+        let (here, there) = (self.len(), tlcs.len());
+        let differ = self.entries().zip(tlcs).position(|(entry, tlc)| record(entry) != tlc.record());
+        differ.or((here != there).then_some(here.min(there))).map(|place| place as u64)
     }
 
     /// Was it made from these settlement TLCs?

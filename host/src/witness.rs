@@ -4,7 +4,7 @@ use std::fmt;
 
 use crate::layout as l;
 use crate::record::part;
-use crate::{c, Commitment, HashLength, LockArgs, Owed, Party, Refusal, Shares, State, Tlcs};
+use crate::{c, Commitment, HashLength, LockArgs, Owed, Party, Preimage, Refusal, Shares, State, Tlcs};
 
 /// The 16 bytes that stand in front of a settlement witness on chain: an empty `WitnessArgs`, full size 16 and three
 /// offsets of 16. The reference calls them `XUDT_COMPATIBLE_WITNESS`.
@@ -146,10 +146,11 @@ impl<'a> Witness<'a> {
     ///
     /// # Errors
     ///
-    /// [`Refusal::PrefixMissing`]; then as [`update`], but for [`Refusal::OutputShort`].
+    /// [`Refusal::PrefixMissing`]; [`Refusal::PrefixLeft`] where they stand there twice; then as [`update`], but for
+    /// [`Refusal::OutputShort`].
     pub fn from_chain(on_chain: &'a [u8], args: &LockArgs) -> Result<Witness<'a>, Refusal> {
         match on_chain.strip_prefix(&CHAIN_PREFIX) {
-            Some(witness) => Witness::new(witness, args.hash_length()),
+            Some(witness) => Witness::without_prefix(witness, args.hash_length()),
             None => Err(Refusal::PrefixMissing),
         }
     }
@@ -196,12 +197,25 @@ impl<'a> Witness<'a> {
         Unlocks { rest: &self.bytes[self.found.first_unlock..] }
     }
 
+    /// The preimages that its unlocks of TLCs show, each with its hash under that TLC's algorithm. A tower stores them:
+    /// each may settle the same payment on another channel.
+    pub fn preimages(&self) -> impl Iterator<Item = Preimage> + 'a {
+        // An unlock names its TLC in the list that the transaction found.
+        let tlcs = self.tlcs();
+        self.unlocks().filter_map(move |unlock| {
+            let (tlc, preimage) = (tlcs.clone().nth(unlock.tlc()?)?, unlock.preimage()?);
+            // The library has read the witness, so the version was looked at.
+            Some(Preimage::stored(tlc.algorithm().hashed(&preimage), preimage))
+        })
+    }
+
     /// The state that the unlocks left: what the cell holds that the transaction made.
     pub const fn left(&self) -> &State {
         &self.left
     }
 
-    /// What is owed to whom in the state left.
+    /// What is owed to whom in the state left. With the wrong commitment everything is turned round: what is ours is
+    /// told as theirs.
     pub fn owed(&self, commitment: Commitment) -> Owed {
         self.left.owed(commitment)
     }
@@ -272,7 +286,7 @@ impl<'a> Unlock<'a> {
         self.share().is_none().then_some(self.byte().into())
     }
 
-    /// The preimage that it shows, which a tower stores: it may settle the same payment on another channel.
+    /// The preimage that it shows. [`Witness::preimages`] has it with its hash, as a tower stores it.
     pub fn preimage(&self) -> Option<[u8; 32]> {
         self.bytes.get(l::UNLOCK..l::UNLOCK_WITH_PREIMAGE).map(|bytes| part(bytes, 0))
     }

@@ -7,6 +7,7 @@
 #include <string.h>
 
 #define GUARD 0xAA
+#define START ((uint64_t)1700000 * 1000000) /* milliseconds; the TLC expires 5,999 later, and by its record 5,000 */
 
 static unsigned checks, failures;
 static uint8_t answer[FIBER_SETTLEMENT_CHOOSE_ANSWER + 16], out[1024];
@@ -239,7 +240,7 @@ static void put_tlc(uint8_t *tlc, uint8_t received)
     tlc[FIBER_SETTLEMENT_TLC_ALGORITHM] = 1;
     tlc[FIBER_SETTLEMENT_TLC_AMOUNT] = 100;
     fiber_settlement_sha256(preimage, sizeof preimage, tlc + FIBER_SETTLEMENT_TLC_HASH);
-    put_le(tlc + FIBER_SETTLEMENT_TLC_EXPIRY, 5999);
+    put_le(tlc + FIBER_SETTLEMENT_TLC_EXPIRY, START + 5999);
     memcpy(tlc + FIBER_SETTLEMENT_TLC_LOCAL_KEY, our_key, sizeof our_key);
     memcpy(tlc + FIBER_SETTLEMENT_TLC_REMOTE_KEY, their_key, sizeof their_key);
 }
@@ -253,7 +254,7 @@ static void put_record(uint8_t *record, size_t h, uint8_t for_remote, const uint
     memcpy(record + FIBER_SETTLEMENT_RECORD_HASH, tlc + FIBER_SETTLEMENT_TLC_HASH, h);
     memcpy(record + 17 + h, for_remote ? their_hash : our_hash, FIBER_SETTLEMENT_KEY_HASH);
     memcpy(record + 37 + h, for_remote ? our_hash : their_hash, FIBER_SETTLEMENT_KEY_HASH);
-    put_le(record + 57 + h, ((uint64_t)1 << 62) + 5);
+    put_le(record + 57 + h, ((uint64_t)1 << 62) + START / 1000 + 5);
 }
 
 static void recording(size_t h, uint8_t for_remote)
@@ -348,7 +349,7 @@ static struct fiber_settlement_request request_of(size_t h, uint8_t for_remote, 
 {
     struct fiber_settlement_request r;
     const size_t args_len = h == FIBER_SETTLEMENT_H_FULL ? FIBER_SETTLEMENT_ARGS_FULL_LEN : FIBER_SETTLEMENT_ARGS_SHORT_LEN;
-    uint8_t hash[FIBER_SETTLEMENT_HASH];
+    uint8_t hash[FIBER_SETTLEMENT_HASH], entry[160];
     memset(&r, 0, sizeof r);
     memset(args, 0x77, sizeof args);
     put_le(args + FIBER_SETTLEMENT_ARGS_DELAY, (uint64_t)0xA0 << 56 | (uint64_t)1 << 40 | 6);
@@ -359,12 +360,17 @@ static struct fiber_settlement_request request_of(size_t h, uint8_t for_remote, 
     memcpy(tracked + FIBER_SETTLEMENT_TRACKED_HASH, tlcs + FIBER_SETTLEMENT_TLC_HASH, FIBER_SETTLEMENT_HASH);
     tracked[FIBER_SETTLEMENT_TRACKED_ALGORITHM] = 1;
     put_record(tracked + FIBER_SETTLEMENT_TRACKED_RECORD, h, for_remote, tlcs);
+    memset(entry, GUARD, sizeof entry);
+    same("put_tracked", fiber_settlement_put_tracked(h, for_remote, tlcs, sizeof tlcs, entry, FIBER_SETTLEMENT_TRACKED(h)), 0);
+    same_bytes("put_tracked's bytes", entry, tracked, FIBER_SETTLEMENT_TRACKED(h));
+    untouched("behind put_tracked", entry, FIBER_SETTLEMENT_TRACKED(h), sizeof entry);
+    same("put_tracked, short", fiber_settlement_put_tracked(h, for_remote, tlcs, sizeof tlcs, entry, FIBER_SETTLEMENT_TRACKED(h) - 1), 13);
+    same("put_tracked, shorter", fiber_settlement_put_tracked(h, for_remote, tlcs, sizeof tlcs, entry, 32), 13);
+    same("put_tracked, flag", fiber_settlement_put_tracked(h, 2, tlcs, sizeof tlcs, entry, sizeof entry), 14);
     memset(pairs, 0, sizeof pairs);
     memcpy(pairs + FIBER_SETTLEMENT_PAIR, tlcs + FIBER_SETTLEMENT_TLC_HASH, FIBER_SETTLEMENT_HASH);
     memcpy(pairs + FIBER_SETTLEMENT_PAIR + FIBER_SETTLEMENT_HASH, preimage, sizeof preimage);
-    r.h = fiber_settlement_hash_length(args, args_len);
     r.commitment = for_remote ? FIBER_SETTLEMENT_COMMITMENT_THEIRS : FIBER_SETTLEMENT_COMMITMENT_OURS;
-    r.stage = FIBER_SETTLEMENT_STAGE_FIRST;
     r.time = time;
     r.header.number = 100;
     r.header.index = 3;
@@ -403,7 +409,7 @@ static void chosen(const struct fiber_settlement_request *r, uint64_t kind, uint
     same("delay", at(FIBER_SETTLEMENT_CHOOSE_DELAY_KIND), delay ? FIBER_SETTLEMENT_DELAY_OUT : FIBER_SETTLEMENT_NO_DELAY_OUT);
     same("delay's number", at(FIBER_SETTLEMENT_CHOOSE_DELAY_NUMBER), delay);
     same("delay's index", at(FIBER_SETTLEMENT_CHOOSE_DELAY_INDEX), 0);
-    same("record's length", at(FIBER_SETTLEMENT_CHOOSE_RECORD_LENGTH), is_tlc ? FIBER_SETTLEMENT_RECORD(r->h) : 0);
+    same("record's length", at(FIBER_SETTLEMENT_CHOOSE_RECORD_LENGTH), is_tlc ? FIBER_SETTLEMENT_RECORD(fiber_settlement_hash_length(r->args.bytes, r->args.len)) : 0);
     same("unlock's length", at(FIBER_SETTLEMENT_CHOOSE_UNLOCK_LENGTH),
          kind == FIBER_SETTLEMENT_BY_PREIMAGE ? FIBER_SETTLEMENT_UNLOCK_WITH_PREIMAGE : FIBER_SETTLEMENT_UNLOCK);
     same("args' length", at(FIBER_SETTLEMENT_CHOOSE_ARGS_LENGTH), r->args.len);
@@ -428,11 +434,13 @@ static void settle(struct fiber_settlement_request *r)
     same("prefix", (uint64_t)fiber_settlement_has_chain_prefix(witness, whole), 1);
     same("no prefix", (uint64_t)fiber_settlement_has_chain_prefix(to, whole - FIBER_SETTLEMENT_CHAIN_PREFIX), 0);
     same("prefix, short", (uint64_t)fiber_settlement_has_chain_prefix(witness, 15), 0);
-    r->stage = FIBER_SETTLEMENT_STAGE_LATER;
     r->witness = lent(to, whole - FIBER_SETTLEMENT_CHAIN_PREFIX);
 
     fresh();
-    done("update", fiber_settlement_update(r->h, to, r->witness.len, out, sizeof out, answer, sizeof answer),
+    same("request matches", (uint64_t)fiber_settlement_request_matches(r, out, sizeof out), 1);
+    same("request matches, short", (uint64_t)fiber_settlement_request_matches(r, out, 72), 0);
+    fresh();
+    done("update", fiber_settlement_update(fiber_settlement_hash_length(args, r->args.len), to, r->witness.len, out, sizeof out, answer, sizeof answer),
          FIBER_SETTLEMENT_UPDATE_ANSWER);
     same("state of the args", (uint64_t)fiber_settlement_state_matches(args, r->args.len, out, at(FIBER_SETTLEMENT_UPDATE_LENGTH)), 1);
     same("other state", (uint64_t)fiber_settlement_state_matches(args, r->args.len, NULL, 0), 0);
@@ -447,6 +455,27 @@ static void change_sides(struct fiber_settlement_request *r)
     r->commitment = r->commitment == FIBER_SETTLEMENT_COMMITMENT_OURS ? FIBER_SETTLEMENT_COMMITMENT_THEIRS : FIBER_SETTLEMENT_COMMITMENT_OURS;
 }
 
+/* The tracked list of one TLC behind the witness that settles it; what is not of that cell leaves the list as it was. */
+static void following(size_t h, const struct fiber_settlement_request *r)
+{
+    uint8_t list[160], wrong[512];
+    const size_t size = FIBER_SETTLEMENT_TRACKED(h);
+    memcpy(list, tracked, size);
+    same("follow, 16 bytes left", fiber_settlement_follow(h, witness, r->witness.len, list, size), SIZE_MAX);
+    same("follow, another length", fiber_settlement_follow(h, r->witness.bytes, r->witness.len, list, size - 1), SIZE_MAX);
+    same("follow, no witness", fiber_settlement_follow(h, NULL, 0, list, size), SIZE_MAX);
+    memcpy(wrong, r->witness.bytes, r->witness.len);
+    wrong[FIBER_SETTLEMENT_WITNESS_TLCS]++;
+    same("follow, another record", fiber_settlement_follow(h, wrong, r->witness.len, list, size), SIZE_MAX);
+    wrong[FIBER_SETTLEMENT_WITNESS_TLCS]--;
+    wrong[1 + FIBER_SETTLEMENT_STATE(h, 1)] = 1;
+    same("follow, no such TLC", fiber_settlement_follow(h, wrong, r->witness.len, list, size), SIZE_MAX);
+    same_bytes("follow leaves the list", list, tracked, size);
+    wrong[1 + FIBER_SETTLEMENT_STATE(h, 1)] = FIBER_SETTLEMENT_UNLOCK_LOCAL;
+    same("follow, a share", fiber_settlement_follow(h, wrong, r->witness.len, list, size), size);
+    same("follow", fiber_settlement_follow(h, r->witness.bytes, r->witness.len, list, size), 0);
+}
+
 /* From the first settlement to the last, on the state that `stating` left. The commitment's owner offered the TLC (received is 1), so that the
  * owner has it by timeout and the other party by preimage. */
 static void choosing(size_t h, uint8_t for_remote)
@@ -457,9 +486,13 @@ static void choosing(size_t h, uint8_t for_remote)
     put_tlc(tlcs, 1);
     put_record(state + 1, h, for_remote, tlcs);
 
-    r = request_of(h, for_remote, 6000, 6);
+    r = request_of(h, for_remote, START + 6000, 6);
     same("first state of the args", (uint64_t)fiber_settlement_state_matches(args, r.args.len, state, FIBER_SETTLEMENT_STATE(h, 1)), 1);
     same("first state of short args", (uint64_t)fiber_settlement_state_matches(args, 55, state, FIBER_SETTLEMENT_STATE(h, 1)), 0);
+    same("request matches, first", (uint64_t)fiber_settlement_request_matches(&r, out, sizeof out), 1);
+    tlcs[FIBER_SETTLEMENT_TLC_RECEIVED] ^= 1;
+    same("a list in the wrong view", (uint64_t)fiber_settlement_request_matches(&r, out, sizeof out), 0);
+    tlcs[FIBER_SETTLEMENT_TLC_RECEIVED] ^= 1;
     if (for_remote) {
         chosen(&r, FIBER_SETTLEMENT_SHARE, ours, 5, 6, 0); /* their TLC expired, and we have no preimage */
         r.preimages = lent(pairs, sizeof pairs);
@@ -467,9 +500,9 @@ static void choosing(size_t h, uint8_t for_remote)
         chosen(&r, FIBER_SETTLEMENT_BY_PREIMAGE, 0, 100, 2, 0);
         same_bytes("preimage", out + FIBER_SETTLEMENT_UNLOCK_SIGNATURE + FIBER_SETTLEMENT_SIGNATURE, preimage, sizeof preimage);
     } else {
-        r.time = 5999;
+        r.time = START + 5999;
         turned_down("expiry not past", ask(&r), FIBER_SETTLEMENT_NOTHING_QUALIFIES, 0);
-        r.time = 6000;
+        r.time = START + 6000;
         r.current.number = 104;
         r.current.index = 1;
         turned_down("two thirds not due", ask(&r), FIBER_SETTLEMENT_NOTHING_QUALIFIES, 0);
@@ -479,6 +512,7 @@ static void choosing(size_t h, uint8_t for_remote)
     same_bytes("state handed out", out + at(FIBER_SETTLEMENT_CHOOSE_UNLOCK_LENGTH), state, FIBER_SETTLEMENT_STATE(h, 1));
     settle(&r);
     turned_down("tracked stands no more", ask(&r), FIBER_SETTLEMENT_LIST_DIFFERS, 0);
+    following(h, &r);
     r.tracked = lent(NULL, 0);
     chosen(&r, FIBER_SETTLEMENT_SHARE, ours, 5, 0, 0);
     settle(&r);
@@ -490,7 +524,7 @@ static void choosing(size_t h, uint8_t for_remote)
 /* What is left out of a request is refused. */
 static void without(const char *what, size_t offset, size_t len, uint64_t number)
 {
-    struct fiber_settlement_request r = request_of(20, 0, 6000, 6);
+    struct fiber_settlement_request r = request_of(20, 0, START + 6000, 6);
     memset((char *)&r + offset, 0, len);
     turned_down(what, ask(&r), number, 0);
 }
@@ -503,28 +537,59 @@ static void left_out(void)
     struct fiber_settlement_request r, zero;
     memset(&zero, 0, sizeof zero);
     turned_down("zeros", ask(&zero), 14, 0);
-    WITHOUT(h, 14);
     WITHOUT(commitment, 14);
-    WITHOUT(stage, 14);
     WITHOUT(local_key, 14);
     WITHOUT(remote_key, 14);
-    WITHOUT(args, 10);
+    WITHOUT(args, 14);
     WITHOUT(header, 7);
     WITHOUT(current, 7);
-    WITHOUT(time, 22);
+    WITHOUT(time, 14);
     WITHOUT(tlcs, 20);
     WITHOUT(tracked, 20);
-    r = request_of(20, 0, 6000, 6);
-    r.stage = FIBER_SETTLEMENT_STAGE_LATER;
+    r = request_of(20, 0, START + 6000, 6);
+    args[FIBER_SETTLEMENT_ARGS_LATER] = 1;
     turned_down("no witness", ask(&r), 1, 0);
+    args[FIBER_SETTLEMENT_ARGS_LATER] = 2;
+    turned_down("neither first nor later", ask(&r), 14, 0);
     fresh();
     unanswered("zeros, no answer", fiber_settlement_choose_request(&zero, NULL, 0, NULL, 0));
+}
+
+/* What no chain has is refused. */
+static void cannot_be(void)
+{
+    struct fiber_settlement_request r = request_of(20, 0, (START + 6000) / 1000, 6);
+    turned_down("seconds", ask(&r), 14, 0);
+    r.time = (START + 6000) * 1000;
+    turned_down("microseconds", ask(&r), 14, 0);
+    r = request_of(20, 0, START + 6000, 6);
+    r.witness = lent(state, 74);
+    turned_down("a witness in a first settlement", ask(&r), 14, 0);
+    r = request_of(20, 0, START + 6000, 6);
+    r.header.index = 12;
+    turned_down("index not below length", ask(&r), 14, 0);
+    r = request_of(20, 0, START + 6000, 6);
+    r.current = r.header;
+    r.header.number = 106;
+    turned_down("tip before the cell's block", ask(&r), 14, 0);
+    r = request_of(20, 0, START + 6000, 6);
+    r.commitment = (enum fiber_settlement_commitment)1;
+    turned_down("a flag for a commitment", ask(&r), 14, 0);
+}
+
+static void epochs_of_headers(void)
+{
+    const struct fiber_settlement_epoch epoch = fiber_settlement_epoch_of((uint64_t)1800 << 40 | (uint64_t)7 << 24 | 9001);
+    same("epoch's number", epoch.number, 9001);
+    same("epoch's index", epoch.index, 7);
+    same("epoch's length", epoch.length, 1800);
+    same("since", fiber_settlement_since_of(epoch), (uint64_t)0xA0 << 56 | (uint64_t)1800 << 40 | (uint64_t)7 << 24 | 9001);
 }
 
 /* A channel without TLCs: every list is NULL. */
 static void no_lists(void)
 {
-    struct fiber_settlement_request r = request_of(20, 0, 6000, 6);
+    struct fiber_settlement_request r = request_of(20, 0, START + 6000, 6);
     r.tlcs = r.tracked = lent(NULL, 0);
     chosen(&r, FIBER_SETTLEMENT_SHARE, FIBER_SETTLEMENT_UNLOCK_REMOTE, 5, 6, 0);
     fresh();
@@ -592,6 +657,8 @@ int main(void)
             choosing(lengths[i], for_remote);
         }
     left_out();
+    cannot_be();
+    epochs_of_headers();
     no_lists();
     flagged();
     printf("every function: %u checks, %u failed\n", checks, failures);

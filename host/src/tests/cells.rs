@@ -5,6 +5,8 @@ use crate::*;
 
 pub const LENGTHS: [HashLength; 2] = [HashLength::Short, HashLength::Full];
 pub const COMMITMENTS: [Commitment; 2] = [Commitment::Ours, Commitment::Theirs];
+/// The time that a test counts from.
+pub const START_MS: u64 = 1_700_000_000_000;
 /// 0xD7 is 215, by which a test finds a preimage in a text.
 pub const PREIMAGE: [u8; 32] = [0xD7; 32];
 
@@ -21,13 +23,13 @@ pub struct Cell {
 
 /// Three TLCs: they offered the first, whose preimage we have; we offered the second; they offered the third.
 fn list() -> Vec<SettlementTlc> {
-    let ckb = Preimage::of(Algorithm::Ckb, PREIMAGE).expect("a hash").hash;
+    let ckb = Preimage::of(Algorithm::Ckb, PREIMAGE).expect("a hash").hash();
     let tlc = |offered_by, algorithm, amount, payment_hash, number: u8| SettlementTlc {
         offered_by,
         algorithm,
         amount,
         payment_hash,
-        expiry_ms: 5_999,
+        expiry_ms: START_MS + 5_999,
         our_key: [0x40 + number; 33],
         their_key: [0x80 + number; 33],
     };
@@ -86,7 +88,7 @@ impl Cell {
         Cell::of(self.args.hash_length(), commitment, list.collect(), balances)
     }
 
-    /// A request at a time and so many epochs after the cell.
+    /// A request so many milliseconds after the start and so many epochs after the cell.
     pub fn request(&self, time: u64, epochs: u32) -> Request<'_> {
         Request {
             args: &self.args,
@@ -95,7 +97,7 @@ impl Cell {
             balances: &self.balances,
             preimages: &self.preimages,
             witness: None,
-            time: MedianTime::from_millis(time),
+            time: at(time),
             cell_epoch: Epoch::new(10, 0, 1).expect("an epoch"),
             tip_epoch: Epoch::new(10 + epochs, 0, 1).expect("an epoch"),
         }
@@ -106,8 +108,23 @@ impl Cell {
         let request = self.request(0, 2);
         let mut out = vec![0; request.output_length()];
         let chosen = unlocked(choose(&request, &mut out));
-        (chosen.signed_witness(&[9; 65]), chosen.new_args)
+        (chosen.signed_witness(&[9; 65]), *chosen.new_args().expect("a next cell"))
     }
+}
+
+/// So many milliseconds after the start.
+pub fn at(time: u64) -> MedianTime {
+    MedianTime::from_millis(START_MS + time).expect("a time")
+}
+
+/// The state, a side's unlock of its share behind it, as it is on chain; and the args of the cell that this makes.
+pub fn share_paid(state: &State, args: &LockArgs, party: Party) -> (Vec<u8>, LockArgs) {
+    let on_chain = [&CHAIN_PREFIX[..], &[1], state.as_bytes(), &[party.share_byte(), 0], &[9; 65]].concat();
+    let mut bytes = args.as_bytes().to_vec();
+    let left = Witness::from_chain(&on_chain, args).expect("a witness").left().hash();
+    bytes[36..56].copy_from_slice(&left);
+    bytes[56] = 1;
+    (on_chain, LockArgs::parse(&bytes).expect("args"))
 }
 
 pub fn unlocked<'a, 'o>(answer: Result<Outcome<'a, 'o>, Refusal>) -> Chosen<'a, 'o> {
@@ -145,7 +162,7 @@ fn both_towers_make_the_same_cell() {
             assert_eq!((ours.our_share, ours.their_share), (theirs.their_share, theirs.our_share));
             assert_eq!((ours.our_share, ours.sum(), theirs.sum()), (100, Some(370), Some(370)));
             for (ours, theirs) in ours.tlcs.iter().zip(&theirs.tlcs) {
-                assert_eq!((ours.amount, ours.expiry_ms), (theirs.amount, Some(5_000)));
+                assert_eq!((ours.amount, ours.expiry_ms), (theirs.amount, Some(START_MS + 5_000)));
                 assert!(ours.by_timeout != theirs.by_timeout && ours.by_timeout != ours.by_preimage);
             }
         }
@@ -172,7 +189,7 @@ fn a_record_tells_what_the_list_says() {
                     tlc.key_hash(commitment.party(Side::Them)),
                     key_hash(&known.their_key).expect("a hash")
                 );
-                assert_eq!((tlc.since(), tlc.expiry_ms()), (0x4000_0000_0000_0005, Some(5_000)));
+                assert_eq!((tlc.since(), tlc.expiry_ms()), (at(5_000).to_since(), Some(START_MS + 5_000)));
                 assert_eq!(Ok(tlc.record().to_vec()), tlc_record(hash_length, commitment, known));
                 assert_eq!((hash, tracked), (known.payment_hash, tlc));
             }
@@ -223,20 +240,23 @@ fn the_first_settlement_and_what_it_leaves() {
             let chosen = unlocked(choose(&request, &mut out));
             assert_eq!(chosen.unlocks, Unlocked::Tlc { place: 0, way: Way::Preimage { pair: 0 } });
             assert_eq!((chosen.amount, chosen.key, chosen.is_last()), (10, Key::OfTlc(0), false));
+            assert_eq!(chosen.signer(), &cell.list[0].our_key);
             assert_eq!(chosen.input_since(), cell.args.third().expect("a third").to_since());
             assert_eq!(chosen.other_inputs_since(), 0);
             assert_eq!(chosen.record, cell.tracked.iter().next().expect("one").1.record());
-            assert!(cell.args.is_first() && chosen.new_args.is_later());
-            assert_eq!(chosen.new_args.delay(), cell.args.delay());
+            let next = chosen.new_args().expect("a next cell");
+            assert!(cell.args.is_first() && next.is_later());
+            assert_eq!(next.delay(), cell.args.delay());
 
             let on_chain = chosen.signed_witness(&[9; 65]);
             let parts = [&CHAIN_PREFIX[..], &[1], chosen.state, &[0, 1], &[9; 65], &PREIMAGE].concat();
             assert_eq!(on_chain, parts);
             let witness = Witness::from_chain(&on_chain, &cell.args).expect("a witness");
-            assert!(witness.spends(&cell.args) && !witness.spends(&chosen.new_args));
-            assert!(witness.state_matches(&chosen.new_args) && !witness.state_matches(&cell.args));
+            assert!(witness.spends(&cell.args) && !witness.spends(next));
+            assert!(witness.state_matches(next) && !witness.state_matches(&cell.args));
             let unlocks: Vec<_> = witness.unlocks().map(|unlock| (unlock.tlc(), unlock.preimage())).collect();
             assert_eq!(unlocks, [(Some(0), Some(PREIMAGE))]);
+            assert_eq!(witness.preimages().collect::<Vec<_>>(), cell.preimages);
             assert_eq!((witness.tlcs().len(), witness.left().tlcs().len()), (3, 2));
             assert_eq!(witness.owed(commitment).sum(), Some(360));
         }
@@ -258,28 +278,60 @@ fn a_later_settlement_up_to_the_last() {
             assert_eq!(choose(&later, &mut out), Ok(Outcome::Wait(Cause::NothingQualifies)));
 
             // Ours by timeout, once the record's expiry is passed, which is in whole seconds.
-            let later = Request { time: MedianTime::from_millis(5_001), ..later };
+            let later = Request { time: at(5_001), ..later };
             let chosen = unlocked(choose(&later, &mut out));
             assert_eq!(chosen.unlocks, Unlocked::Tlc { place: 0, way: Way::Timeout });
             assert_eq!((chosen.amount, chosen.key, chosen.delay), (20, Key::OfTlc(1), None));
-            assert_eq!((chosen.input_since(), chosen.other_inputs_since()), (0, 0x4000_0000_0000_0005));
+            assert_eq!((chosen.input_since(), chosen.other_inputs_since()), (0, 0x4000_0000_6553_F105));
             assert_eq!(chosen.record, witness.tlcs().nth(1).expect("one").record());
-            assert!(!chosen.is_last());
+            // The key is found by its place in the list, which is not the place in the state.
+            assert_eq!(chosen.signer(), &cell.list[1].our_key);
+            assert!(!chosen.is_last() && chosen.new_args().is_some());
 
             // Had the other side taken its share, all would be ours.
-            let theirs = commitment.party(Side::Them).share_byte();
-            let paid = [&CHAIN_PREFIX[..], &[1], witness.left().as_bytes(), &[theirs, 0], &[9; 65]].concat();
-            let mut bytes = args.as_bytes().to_vec();
+            let (paid, args) = share_paid(witness.left(), &args, commitment.party(Side::Them));
             let witness = Witness::from_chain(&paid, &args).expect("a witness");
-            bytes[36..56].copy_from_slice(&witness.left().hash());
-            let args = LockArgs::parse(&bytes).expect("args");
             let last = Request { args: &args, witness: Some(&witness), ..later };
             let chosen = unlocked(choose(&last, &mut out));
             assert_eq!(
                 (chosen.unlocks, chosen.amount, chosen.key),
                 (Unlocked::OurShare, 100, Key::Settlement)
             );
+            assert_eq!((chosen.signer(), chosen.new_args()), (&cell.balances.our_key, None));
             assert!(chosen.is_last() && chosen.record.is_empty());
+        }
+    }
+}
+
+/// Our share is taken once all that stands has expired without a preimage. A preimage that comes then is too late, and
+/// the other side takes the whole cell.
+#[test]
+fn after_our_share_no_tlc_is_taken() {
+    for hash_length in LENGTHS {
+        for commitment in COMMITMENTS {
+            let list = [SettlementTlc { offered_by: Side::Them, ..list()[0] }];
+            let cell =
+                Cell::of(hash_length, commitment, list.to_vec(), Cell::new(hash_length, commitment).balances);
+            let mut out = vec![0; cell.request(0, 6).output_length()];
+            let unknown = Request { preimages: &[], ..cell.request(5_999, 6) };
+            assert_eq!(choose(&unknown, &mut out), Ok(Outcome::Wait(Cause::NothingQualifies)));
+            let chosen = unlocked(choose(&Request { time: at(6_000), ..unknown }, &mut out));
+            assert_eq!((chosen.unlocks, chosen.is_last()), (Unlocked::OurShare, false));
+            // Nothing in this transaction carries the time: a clock that is ahead is not turned down.
+            assert_eq!(chosen.other_inputs_since(), 0);
+
+            let (on_chain, args) =
+                (chosen.signed_witness(&[9; 65]), *chosen.new_args().expect("a next cell"));
+            let witness = Witness::from_chain(&on_chain, &args).expect("a witness");
+            let tracked = cell.tracked.after(&witness).expect("the list goes on");
+            assert_eq!((tracked.len(), witness.owed(commitment).our_share), (1, 0));
+            let known =
+                Request { args: &args, tracked: &tracked, witness: Some(&witness), ..cell.request(6_001, 7) };
+            assert_eq!(choose(&known, &mut out), Ok(Outcome::Wait(Cause::NotOurShare)));
+            let other = cell.other_side();
+            let tracked = other.tracked.after(&witness).expect("the list goes on");
+            let theirs = Request { tlcs: &other.tlcs, tracked: &tracked, balances: &other.balances, ..known };
+            assert!(unlocked(choose(&theirs, &mut out)).is_last());
         }
     }
 }

@@ -1,6 +1,6 @@
 //! What a host can get wrong, and what it is told.
 
-use super::cells::{unlocked, Cell, COMMITMENTS, LENGTHS};
+use super::cells::{share_paid, unlocked, Cell, COMMITMENTS, LENGTHS, PREIMAGE, START_MS};
 use crate::c;
 use crate::choose::Fields;
 use crate::layout as l;
@@ -55,7 +55,7 @@ fn a_list_in_the_wrong_view() {
             let raw = c::Choose {
                 first,
                 is_later: 0,
-                time: 6_000,
+                time: START_MS + 6_000,
                 header: [10, 0, 1],
                 current: [14, 0, 1],
                 args: cell.args.as_bytes(),
@@ -103,13 +103,82 @@ fn amounts_and_keys_of_the_wrong_side() {
     for balances in [&amounts, &keys] {
         assert_eq!(asked(&Request { balances, ..cell.request(6_000, 6) }), Err(Refusal::StateDiffers));
     }
-    // In a later settlement the amounts are the witness's, and our key is looked for.
+    // In a later settlement the amounts are the witness's, and the epochs are not looked at.
     let (on_chain, args) = cell.settled_once();
     let witness = Witness::from_chain(&on_chain, &args).expect("a witness");
     let tracked = cell.tracked.after(&witness).expect("the list goes on");
     let later = Request { args: &args, tracked: &tracked, witness: Some(&witness), ..cell.request(0, 2) };
-    assert_eq!(asked(&Request { balances: &keys, ..later }), Ok(Cause::NotOurShare));
+    assert_eq!(asked(&Request { balances: &keys, ..later }), Err(Refusal::KeysDiffer));
     assert_eq!(asked(&Request { balances: &amounts, ..later }), Ok(Cause::NothingQualifies));
+    let (cell_epoch, tip_epoch) = (later.tip_epoch, Epoch::new(10, 0, 0).expect("an epoch"));
+    assert_eq!(asked(&Request { cell_epoch, tip_epoch, ..later }), Ok(Cause::NothingQualifies));
+}
+
+/// Keys that are not those of the slots. Where a slot has zeros its key is not in the cell any more.
+#[test]
+fn keys_in_a_later_settlement() {
+    for commitment in COMMITMENTS {
+        let cell = Cell::new(HashLength::Short, commitment);
+        let state = first_state(HashLength::Short, &cell.tlcs, &cell.balances).expect("a state");
+        let b = cell.balances;
+        let stranger = [0x99; 33];
+        let swapped = Balances { our_key: b.their_key, their_key: b.our_key, ..b };
+        let (ours, theirs) = (Balances { our_key: stranger, ..b }, Balances { their_key: stranger, ..b });
+        for paid in [Side::Us, Side::Them] {
+            let (on_chain, args) = share_paid(&state, &cell.args, commitment.party(paid));
+            let witness = Witness::from_chain(&on_chain, &args).expect("a witness");
+            let later = Request { args: &args, witness: Some(&witness), ..cell.request(0, 2) };
+            let (absent, wrong) = if paid == Side::Us { (&ours, &theirs) } else { (&theirs, &ours) };
+            assert_eq!(asked(&Request { balances: &swapped, ..later }), Err(Refusal::KeysDiffer));
+            assert_eq!(asked(&Request { balances: wrong, ..later }), Err(Refusal::KeysDiffer));
+            for balances in [&b, absent] {
+                let request = Request { balances, ..later };
+                if paid == Side::Us {
+                    assert_eq!(asked(&request), Ok(Cause::NotOurShare));
+                } else {
+                    let mut out = vec![0; request.output_length()];
+                    assert!(unlocked(choose(&request, &mut out)).is_last());
+                }
+            }
+        }
+    }
+}
+
+/// Without TLCs no record tells whose commitment it is: the keys do.
+#[test]
+fn the_wrong_commitment_without_tlcs() {
+    let cell = Cell::new(HashLength::Full, Commitment::Ours);
+    let [ours, theirs] = COMMITMENTS.map(|commitment| SettlementTlcs::new(commitment, &[]));
+    let state = first_state(HashLength::Full, &ours, &cell.balances).expect("a state");
+    for paid in [Party::Owner, Party::Other] {
+        let (on_chain, args) = share_paid(&state, &cell.args, paid);
+        let witness = Witness::from_chain(&on_chain, &args).expect("a witness");
+        let tracked = TrackedTlcs::standing(&theirs, witness.left()).expect("none");
+        let request = Request {
+            args: &args,
+            tlcs: &theirs,
+            tracked: &tracked,
+            witness: Some(&witness),
+            ..cell.request(0, 2)
+        };
+        assert_eq!(asked(&request), Err(Refusal::KeysDiffer));
+    }
+}
+
+#[test]
+fn times_in_other_units() {
+    let told = MedianTime::from_millis;
+    for time in [0, 1_700_000_000, 1_499_999_999_999] {
+        assert_eq!(told(time), Err(TimeError::Below(time)));
+    }
+    for time in [10_000_000_000_000, 1_700_000_000_000_000, 1_700_000_000_000_000_000, u64::MAX] {
+        assert_eq!(told(time), Err(TimeError::Above(time)));
+    }
+    for time in [1_500_000_000_000, START_MS, 9_999_999_999_999] {
+        assert_eq!(told(time).map(MedianTime::millis), Ok(time));
+    }
+    assert!(TimeError::Below(3).to_string().contains("is it in seconds?"));
+    assert!(TimeError::Above(3).to_string().contains("is it in microseconds or nanoseconds?"));
 }
 
 #[test]
@@ -122,8 +191,15 @@ fn first_and_later() {
     assert_eq!(asked(&later), Ok(Cause::NothingQualifies));
     assert_eq!(asked(&Request { witness: None, ..later }), Err(Refusal::WitnessMissing));
     assert_eq!(asked(&Request { args: &cell.args, ..later }), Err(Refusal::WitnessOfFirst));
-    // The list of the cell before.
-    assert_eq!(asked(&Request { tracked: &cell.tracked, ..later }), Ok(Cause::ListDiffers));
+    // The list of the cell before, and in the first settlement that of the cell behind.
+    assert_eq!(
+        asked(&Request { tracked: &cell.tracked, ..later }),
+        Err(Refusal::TrackedDiffers { place: 0 })
+    );
+    assert_eq!(
+        asked(&Request { tracked: &tracked, ..cell.request(0, 2) }),
+        Err(Refusal::TrackedDiffers { place: 0 })
+    );
     // Settlement TLCs other than those that the tracked list is from: their keys would not be found.
     let list = SettlementTlcs::new(Commitment::Ours, &cell.list[1..]);
     assert_eq!(asked(&Request { tlcs: &list, ..later }), Err(Refusal::Mixed { part: "tracked list" }));
@@ -132,6 +208,28 @@ fn first_and_later() {
     bytes[36] ^= 1;
     let elsewhere = LockArgs::parse(&bytes).expect("args");
     assert_eq!(asked(&Request { args: &elsewhere, ..later }), Err(Refusal::StateDiffers));
+}
+
+/// A list that is one short or one long differs where it, or the state, ends.
+#[test]
+fn a_tracked_list_of_another_cell() {
+    for hash_length in LENGTHS {
+        let cell = Cell::new(hash_length, Commitment::Ours);
+        let state = first_state(hash_length, &cell.tlcs, &cell.balances).expect("a state");
+        let on_chain = [&CHAIN_PREFIX[..], &[1], state.as_bytes(), &[2, 0], &[9; 65]].concat();
+        let witness = Witness::from_chain(&on_chain, &cell.args).expect("a witness");
+        let left = cell.tracked.after(&witness).expect("the list goes on");
+        let mut bytes = cell.args.as_bytes().to_vec();
+        bytes[36..56].copy_from_slice(&witness.left().hash());
+        bytes[56] = 1;
+        let args = LockArgs::parse(&bytes).expect("args");
+        let later = Request { args: &args, witness: Some(&witness), preimages: &[], ..cell.request(0, 2) };
+        assert_eq!(asked(&later), Err(Refusal::TrackedDiffers { place: 2 }));
+        assert_eq!(asked(&Request { tracked: &left, ..later }), Ok(Cause::NothingQualifies));
+        let first = Request { preimages: &[], ..cell.request(0, 2) };
+        assert_eq!(asked(&Request { tracked: &left, ..first }), Err(Refusal::TrackedDiffers { place: 2 }));
+        assert_eq!(asked(&first), Ok(Cause::NothingQualifies));
+    }
 }
 
 #[test]
@@ -184,6 +282,8 @@ fn the_bytes_in_front() {
     assert_eq!(Witness::from_chain(&on_chain[16..], &args), Err(Refusal::PrefixMissing));
     assert_eq!(Witness::from_chain(&on_chain[..15], &args), Err(Refusal::PrefixMissing));
     assert_eq!(Witness::from_chain(&on_chain[..17], &args), Err(Refusal::WitnessShort { length: 1 }));
+    let twice = [&CHAIN_PREFIX[..], &on_chain].concat();
+    assert_eq!(Witness::from_chain(&twice, &args), Err(Refusal::PrefixLeft));
     // Places count behind them.
     let cut = &on_chain[..on_chain.len() - 1];
     assert_eq!(
@@ -290,6 +390,66 @@ fn too_many_tlcs() {
     assert_eq!(asked(&request), Err(Refusal::TooManyTlcs));
 }
 
+/// A scaled delay whose index is its length is handed out as the reference makes it.
+#[test]
+fn a_since_that_the_chain_turns_down() {
+    let cell = Cell::new(HashLength::Short, Commitment::Ours);
+    let mut bytes = cell.args.as_bytes().to_vec();
+    bytes[20..28].copy_from_slice(&Epoch::new(1, 300, 601).expect("an epoch").to_since().to_le_bytes());
+    let args = LockArgs::parse(&bytes).expect("args");
+    let request = Request { args: &args, preimages: &[], ..cell.request(6_000, 1) };
+    let mut out = vec![0; request.output_length()];
+    let chosen = unlocked(choose(&request, &mut out));
+    assert_eq!(chosen.unlocks, Unlocked::Tlc { place: 1, way: Way::Timeout });
+    assert_eq!(chosen.input_since(), 0xA003_8503_8500_0000);
+    // The next whole number is due as well, and not below it.
+    let (delay, whole) = (chosen.delay.expect("a delay"), Epoch::new(1, 0, 1).expect("an epoch"));
+    let start = Epoch::new(0, 0, 1).expect("an epoch");
+    assert_eq!((is_due(start, delay, whole), is_due(start, whole, delay)), (Ok(true), Ok(true)));
+    assert_eq!(is_due(request.cell_epoch, whole, request.tip_epoch), Ok(true));
+}
+
+#[test]
+fn preimages_of_a_tlc() {
+    let [ckb, sha256] = [Algorithm::Ckb, Algorithm::Sha256].map(|algorithm| SettlementTlc {
+        algorithm,
+        payment_hash: algorithm.hash(&PREIMAGE).expect("a hash"),
+        ..Cell::new(HashLength::Full, Commitment::Ours).list[0]
+    });
+    for tlc in [ckb, sha256] {
+        let pair = tlc.preimage(PREIMAGE).expect("a pair");
+        assert_eq!((pair.hash(), pair.preimage()), (tlc.payment_hash, PREIMAGE));
+        assert_eq!(pair.counts(tlc.algorithm), Ok(true));
+        assert_eq!(tlc.preimage([0xD6; 32]), Err(Refusal::PreimageDiffers));
+    }
+    // The other algorithm, and the other hash.
+    let turned = SettlementTlc { algorithm: Algorithm::Sha256, ..ckb };
+    assert_eq!(turned.preimage(PREIMAGE), Err(Refusal::PreimageDiffers));
+    let turned = SettlementTlc { payment_hash: sha256.payment_hash, ..ckb };
+    assert_eq!(turned.preimage(PREIMAGE), Err(Refusal::PreimageDiffers));
+}
+
+/// Several unlocks in one witness: a preimage is hashed as the TLC says that stood at the place before any unlock.
+#[test]
+fn preimages_that_a_witness_shows() {
+    for hash_length in LENGTHS {
+        let cell = Cell::new(hash_length, Commitment::Theirs);
+        let state = first_state(hash_length, &cell.tlcs, &cell.balances).expect("a state");
+        let mut bytes = [&CHAIN_PREFIX[..], &[4], state.as_bytes()].concat();
+        for (place, preimage) in [(0, Some(1)), (0xFF, Some(2)), (1, None), (2, Some(3))] {
+            bytes.extend([place, u8::from(preimage.is_some())]);
+            bytes.extend([9; 65]);
+            bytes.extend(preimage.map_or(vec![], |byte| vec![byte; 32]));
+        }
+        let witness = Witness::from_chain(&bytes, &cell.args).expect("a witness");
+        assert_eq!(witness.left().tlcs().len(), 0);
+        let shown: Vec<Preimage> = witness.preimages().collect();
+        let pair = |algorithm, byte| Preimage::of(algorithm, [byte; 32]).expect("a hash");
+        assert_eq!(shown, [pair(Algorithm::Ckb, 1), pair(Algorithm::Sha256, 3)]);
+        assert_eq!(cell.list.iter().map(|tlc| tlc.algorithm as u8).collect::<Vec<_>>(), [0, 1, 1]);
+    }
+}
+
 #[test]
 fn no_text_shows_a_preimage() {
     let cell = Cell::new(HashLength::Short, Commitment::Ours);
@@ -302,7 +462,9 @@ fn no_text_shows_a_preimage() {
         format!("{request:?} {request:#?}"),
         format!("{chosen:?} {:?}", Outcome::Unlock(chosen)),
         format!("{witness:?} {:?}", witness.unlocks().next()),
-        format!("{:?}", cell.preimages),
+        format!("{:?} {:#?}", cell.preimages, cell.list[0].preimage(PREIMAGE)),
+        format!("{:?} {:?}", witness.preimages().collect::<Vec<_>>(), cell.list[1].preimage(PREIMAGE)),
+        format!("{:?} {:?}", witness.left(), cell.tracked),
     ];
     for text in texts {
         let flat = text.split_whitespace().collect::<String>().to_lowercase();
@@ -313,15 +475,14 @@ fn no_text_shows_a_preimage() {
 
 #[test]
 fn pairs_are_lent_as_they_lie() {
-    let pairs =
-        [[1, 2], [3, 4]].map(|[hash, preimage]| Preimage { hash: [hash; 32], preimage: [preimage; 32] });
+    let pairs = [[1, 2], [3, 4]].map(|[hash, preimage]| Preimage::stored([hash; 32], [preimage; 32]));
     let lent = flat(&pairs);
     assert_eq!(lent.as_ptr(), pairs.as_ptr().cast());
     assert_eq!(lent, [[1; 32], [2; 32], [3; 32], [4; 32]].concat());
     assert_eq!(flat(&[]), []);
     // The first pair with the hash hides a right one behind it.
     let cell = Cell::new(HashLength::Short, Commitment::Ours);
-    let wrong = Preimage { preimage: [1; 32], ..cell.preimages[0] };
+    let wrong = Preimage::stored(cell.preimages[0].hash(), [1; 32]);
     assert_eq!(
         (wrong.counts(Algorithm::Ckb), cell.preimages[0].counts(Algorithm::Ckb)),
         (Ok(false), Ok(true))
@@ -343,6 +504,14 @@ fn an_answer_that_the_header_does_not_have() {
     let answer = |field, value| Some(Refusal::Answer { field, value });
     assert_eq!(odd(l::CHOOSE_KIND, 3).unlocks().err(), answer("CHOOSE_KIND", 3));
     assert_eq!(odd(l::CHOOSE_KEY_KIND, 2).key().err(), answer("CHOOSE_KEY_KIND", 2));
+    let cell = Cell::new(HashLength::Short, Commitment::Ours);
+    for (place, told) in [(2, None), (3, Some(3)), (u64::MAX, Some(u64::MAX))] {
+        let mut bytes = [0; l::CHOOSE_ANSWER];
+        bytes[l::CHOOSE_KEY_KIND] = l::KEY_OF_TLC as u8;
+        bytes[l::CHOOSE_KEY_PLACE..][..8].copy_from_slice(&place.to_le_bytes());
+        let signer = Fields(c::Answer::of(bytes)).signer(&cell.tlcs, &cell.balances).err();
+        assert_eq!(signer, told.and_then(|value| answer("CHOOSE_KEY_PLACE", value)));
+    }
     assert_eq!(odd(l::CHOOSE_DELAY_KIND, 2).delay().err(), answer("CHOOSE_DELAY_KIND", 2));
     assert_eq!(odd(l::CHOOSE_LAST, 2).last().err(), answer("CHOOSE_LAST", 2));
     for value in [11, u64::MAX] {

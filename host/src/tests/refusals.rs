@@ -20,6 +20,9 @@ fn ours() -> Vec<Refusal> {
         Refusal::WitnessOfFirst,
         Refusal::CellAfterTip,
         Refusal::StateDiffers,
+        Refusal::KeysDiffer,
+        Refusal::TrackedDiffers { place: 3 },
+        Refusal::PreimageDiffers,
         Refusal::Mixed { part: "witness" },
         Refusal::RecordUnknown { place: 3 },
     ]
@@ -59,6 +62,7 @@ fn every_number_has_a_sentence_of_its_own() {
         .extend([ArgsError::Length(3), ArgsError::Features(3), ArgsError::Later(3)].map(|e| e.to_string()));
     let epochs = [EpochError::NumberAbove(3), EpochError::NoHeaderEpoch(3), EpochError::NoRelativeEpoch(3)];
     sentences.extend(epochs.map(|error| error.to_string()));
+    sentences.extend([TimeError::Below(3), TimeError::Above(3)].map(|error| error.to_string()));
     for sentence in &sentences {
         // What is wrong, and what to do.
         assert!(sentence.contains("; "), "{sentence}");
@@ -67,10 +71,31 @@ fn every_number_has_a_sentence_of_its_own() {
             "{sentence}"
         );
     }
-    assert_eq!(sentences.len(), REFUSALS.len() + 1 + ours().len() + WAITS.len() + 6);
+    assert_eq!(sentences.len(), REFUSALS.len() + 1 + ours().len() + WAITS.len() + 8);
     assert_eq!(sentences.iter().collect::<BTreeSet<_>>().len(), sentences.len());
     let error: Box<dyn Error> = Box::new(Refusal::OutputShort { needed: 73 });
     assert_eq!(error.to_string(), "the output is too short; lend 73 bytes and ask again");
+}
+
+#[test]
+fn a_sentence_names_what_to_look_at() {
+    let has = |sentence: String, words: &[&str]| {
+        for word in words {
+            assert!(sentence.contains(word), "{word}: {sentence}");
+        }
+    };
+    for number in 1..=6 {
+        let sentence = Refusal::from(Code { number, place: 3 }).to_string();
+        has(sentence, &["index of the input", "16-byte prefix", "take h from", "revocation's witness"]);
+    }
+    has(Refusal::KeysDiffer.to_string(), &["our_key and their_key are swapped", "whose commitment"]);
+    has(
+        Refusal::TrackedDiffers { place: 3 }.to_string(),
+        &["place 3", "TrackedTlcs::first", "`after`", "`standing`"],
+    );
+    has(Refusal::RecordUnknown { place: 3 }.to_string(), &["skipped or taken twice"]);
+    has(Cause::NotOurShare.to_string(), &["paid out", "no TLC of this cell", "takes whole"]);
+    has(Cause::NothingQualifies.to_string(), &["cell_epoch is that of the cell's own block", "median time"]);
 }
 
 #[test]
