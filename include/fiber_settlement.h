@@ -84,7 +84,8 @@
  *                later settlement goes on as soon as anybody's unlock has settled one of them.
  *    13          give the output as many bytes as the place says and call again
  *    14          the call is wrong, not the chain: h, a flag, a length or a field. Asking again does not help.
- *    20, 21, 22  waits: nothing was written; ask again at the next tip. A mistake can look like one, so look where it stays:
+ *    20, 21, 22  waits: nothing but number and place was written; ask again at the next tip. A mistake can look like one, so look
+ *                where it stays:
  *       22       not yet: no expiry, no delay and no preimage allows an unlock. Where it stays past the delay and the last
  *                expiry: is time in milliseconds, header of the cell's own block, tlcs whole and with our keys, and does the state
  *                match the args?

@@ -390,6 +390,9 @@ fn written<const N: usize>(
     Ok(Some(Reply::Value(out.written(length as usize).to_vec())))
 }
 
+/// A call's answer, and the output that it may have written.
+type Wrote = (Reply<Vec<u8>>, Buffer);
+
 /// One call with an output and an answer buffer, of which `size` bytes are wanted. None: 14 by the return value alone.
 /// On success the answer's bytes, and the output, whose bytes are still to be looked at.
 fn called<const N: usize>(
@@ -399,7 +402,7 @@ fn called<const N: usize>(
     answer: usize,
     size: usize,
     call: impl Fn([Given; N], *mut u8, usize, *mut u8, usize) -> u64,
-) -> Result<Option<(Reply<Vec<u8>>, Buffer)>, String> {
+) -> Result<Option<Wrote>, String> {
     let texts = lists.map(|list| Buffer::holding(random, list));
     let mut out = Buffer::new(random, output);
     let mut fields = Buffer::new(random, answer);

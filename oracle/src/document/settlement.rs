@@ -326,7 +326,7 @@ fn first_record(h: usize, for_remote: bool, tlc: &Tlc) -> Vec<u8> {
     bytes.extend(&tlc.hash[..h]);
     let (remote, local) = (hash_of_key(tlc.remote), hash_of_key(tlc.local));
     bytes.extend(if for_remote { [remote, local] } else { [local, remote] }.concat());
-    bytes.extend((0x4000_0000_0000_0000 | tlc.expiry / 1000).to_le_bytes());
+    bytes.extend((0x4000_0000_0000_0000 | (tlc.expiry / 1000)).to_le_bytes());
     bytes
 }
 

@@ -93,7 +93,7 @@ impl Kind for Choice {
                         for now in nows {
                             let one = tlc(received, algorithm, expiry, 1);
                             let two = tlc(!received, 1 - algorithm, 0, 2);
-                            let mut request = plain(for_remote, &[one.clone()], now);
+                            let mut request = plain(for_remote, std::slice::from_ref(&one), now);
                             edges.push(request.clone());
                             request.preimages = [one.hash(), one.preimage].concat();
                             edges.push(request);

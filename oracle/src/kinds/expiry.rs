@@ -71,7 +71,7 @@ impl Kind for Expiry {
         };
         let top = if random.one_in(2) { TIMESTAMP >> 56 } else { random.below(256) };
         let bits = if random.one_in(4) { random.below(32) } else { 0 };
-        (top | bits) << 56 | value % (1 << 56)
+        ((top | bits) << 56) | (value % (1 << 56))
     }
 
     fn document(since: &u64) -> Document<Option<u64>> {
