@@ -1,5 +1,5 @@
 // The later settlement: the TLCs that stand after the witness's own unlocks are walked in order.
-use crate::slot::our_share;
+use fiber_step::slot::our_share;
 use crate::walk::walked;
 use fiber_bytes::part_of;
 use fiber_choice::kinds::Choice;

@@ -1,6 +1,6 @@
 // The walk over the tracked TLCs, of either settlement. It ends at the first chosen.
-use crate::slot::our_share;
-use crate::step::step;
+use fiber_step::slot::our_share;
+use fiber_step::step::step;
 use fiber_choice::kinds::Stage;
 use fiber_choice::kinds::Step;
 use fiber_types::layout::TRACKED_FIXED;

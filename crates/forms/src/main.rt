@@ -7,7 +7,7 @@ use fiber_choice::kinds::Found;
 use fiber_types::layout::PAIR;
 use fiber_types::layout::TRACKED_FIXED;
 use fiber_types::tlc::valid_hash_len;
-use fiber_walk::preimage;
+use fiber_step::preimage;
 use libc::STDOUT_FILENO;
 use preimage_list::Preimage;
 use std::num::wrapping_add_u64;
