@@ -259,6 +259,23 @@ static void follow(struct tower *tower, const struct chain *chain)
     tower->standing = left / TRACKED;
 }
 
+/* A wait of the walk. With 23 to 25 goes the place, among the tracked TLCs, of the first that is still pending. */
+static void say_wait(const struct tower *tower, const struct chain *chain, const uint8_t *answer)
+{
+    const uint64_t number = fiber_settlement_field(answer, FIBER_SETTLEMENT_NUMBER);
+    const uint64_t place = fiber_settlement_field(answer, FIBER_SETTLEMENT_PLACE);
+    printf("  epoch %" PRIu64 ": %s waits for ", chain->tip_epoch, names[tower->party]);
+    if (number == FIBER_SETTLEMENT_DELAY_NOT_DUE) {
+        printf("the delay\n");
+        return;
+    }
+    must(place < tower->standing, "the TLC that is waited for");
+    printf("the TLC at place %" PRIu64 ", which %s\n", place,
+           number == FIBER_SETTLEMENT_TLC_PASSED_OVER ? "no time makes due: an operator has to look"
+           : number == FIBER_SETTLEMENT_TLC_NOT_DUE   ? "is not due"
+                                                      : "is without a preimage");
+}
+
 /* One look at the chain. 1 if the tower settled something; a wait is ordinary. */
 static int look(struct tower *tower, struct chain *chain)
 {
@@ -270,8 +287,11 @@ static int look(struct tower *tower, struct chain *chain)
         say(tower, chain, answer);
         put_on_chain(chain, tower->party, out, answer);
         return 1;
-    case FIBER_SETTLEMENT_NOTHING_QUALIFIES:
-        printf("  epoch %" PRIu64 ": %s waits, nothing can be unlocked yet\n", chain->tip_epoch, names[tower->party]);
+    case FIBER_SETTLEMENT_DELAY_NOT_DUE:
+    case FIBER_SETTLEMENT_TLC_PASSED_OVER:
+    case FIBER_SETTLEMENT_TLC_NOT_DUE:
+    case FIBER_SETTLEMENT_TLC_NO_PREIMAGE:
+        say_wait(tower, chain, answer);
         return 0;
     case FIBER_SETTLEMENT_NOT_OUR_SHARE:
         printf("  epoch %" PRIu64 ": %s has been paid\n", chain->tip_epoch, names[tower->party]);

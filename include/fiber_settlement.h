@@ -84,14 +84,24 @@
  *                later settlement goes on as soon as anybody's unlock has settled one of them.
  *    13          give the output as many bytes as the place says and call again
  *    14          the call is wrong, not the chain: h, a flag, a length or a field. Asking again does not help.
- *    20, 21, 22  waits: nothing but number and place was written; ask again at the next tip. A mistake can look like one, so look
- *                where it stays:
- *       22       not yet: no expiry, no delay and no preimage allows an unlock. Where it stays past the delay and the last
- *                expiry: is time in milliseconds, header of the cell's own block, tlcs whole and with our keys, and does the state
- *                match the args?
- *       21       our share is not there. It was paid out, and then the core, as the reference, takes no TLC of this cell any more,
- *                also with a preimage that comes later; or the key, or for_remote, is not this cell's.
+ *    20 to 25    waits; so is every other number of a choice from 20 on: nothing but number and place was written; ask again at the
+ *                next tip. A mistake can look like a wait, so look where it stays:
  *       20       the tracked list is not what stands in the cell: scan the chain again. Where it stays, look at for_remote first.
+ *       21       our share is not there. It was paid out, and then the core, as the reference, takes no TLC of this cell any more,
+ *                also with a preimage that comes later; or the key, or for_remote, is not this cell's. In a later settlement alone.
+ *       22       a first settlement without TLCs, and the whole delay is not due. Where it stays past the delay: is header that of the
+ *                cell's own block?
+ *       23 to 25 the first TLC that is still pending. The place is its place, from 0, in tracked: in a later settlement that is among
+ *                the TLCs that stand after the update of the witness, in a first one among the settlement TLCs. A TLC behind it
+ *                may come due sooner, so go on asking at every tip.
+ *       23       no time and no preimage makes this TLC due, and till the last settlement our share waits with it: tell an operator. Its
+ *                expiry is no absolute timestamp, or no settlement TLC has its hash and our key. Is tlcs whole and with our keys, does
+ *                the record belong to this channel, and does the state match the args? In a later settlement alone.
+ *       24       ours by timeout, and its expiry has not passed; or, in a first settlement, its part of the delay is not due, 2/3 by
+ *                timeout, 1/3 by preimage. Where it stays past both: is time in milliseconds, and header that of the cell's own block?
+ *       25       ours by preimage, no stored preimage counts, and it is not given up yet: its expiry has not passed, or in a first
+ *                settlement the whole delay is not due. With a preimage that comes it is chosen at once. Where there is one: has its
+ *                pair the whole hash, does it have that hash under the TLC's algorithm, and is it the first pair with it?
  */
 #ifndef FIBER_SETTLEMENT_H
 #define FIBER_SETTLEMENT_H
@@ -128,7 +138,12 @@ uint64_t fiber_settlement_abi(void);
 #define FIBER_SETTLEMENT_NOT_WELL 14 /* an argument with a length or a value that its layout does not have: 0 */
 #define FIBER_SETTLEMENT_LIST_DIFFERS 20 /* wait, the tracked list differs from the TLCs: 0 */
 #define FIBER_SETTLEMENT_NOT_OUR_SHARE 21 /* wait, our share is not there: 0 */
-#define FIBER_SETTLEMENT_NOTHING_QUALIFIES 22 /* wait, nothing qualifies: 0 */
+#define FIBER_SETTLEMENT_DELAY_NOT_DUE 22 /* wait, a first settlement without TLCs, and its delay is not due: 0 */
+#define FIBER_SETTLEMENT_TLC_PASSED_OVER 23 /* wait, a TLC without an absolute timestamp expiry or without a key: its place, from 0 */
+#define FIBER_SETTLEMENT_TLC_NOT_DUE 24 /* wait, a TLC whose part of the delay is not due, or by timeout whose expiry has not passed:
+                                           its place */
+#define FIBER_SETTLEMENT_TLC_NO_PREIMAGE 25 /* wait, a TLC by preimage, none that is stored counts, and its expiry has not passed (in a
+                                               first settlement: or the whole delay is not due): its place */
 
 /* The front of every answer. */
 #define FIBER_SETTLEMENT_NUMBER 0
@@ -406,6 +421,10 @@ uint64_t fiber_settlement_first_state(uint64_t h, uint8_t for_remote, uint64_t l
  * a TLC is passed over, and keeps our share waiting, if its expiry is no absolute timestamp or if no settlement TLC has its hash
  * and our key. The expiry is the TLC's milliseconds in a first settlement, the whole seconds of its record in a later one.
  *
+ * Where nothing is chosen, number and place tell the first TLC that is still pending: 23, 24 or 25, and where several fit that TLC,
+ * the first of them. Never named is a TLC that is given up: ours by preimage, no preimage counts, and expired; in a first settlement
+ * the whole delay must be due too. Without a TLC there is 22, in a first settlement alone.
+ *
  * On chain the order is another: the 16 bytes, the byte 1, the state, the unlock with its signature. Unless it is the last
  * settlement, the first output is the successor cell: the same lock with the new args, which name the state after the unlock, and what
  * the cell had less the amount. The commitment input's since is the delay of the answer as a relative epoch
@@ -413,7 +432,7 @@ uint64_t fiber_settlement_first_state(uint64_t h, uint8_t for_remote, uint64_t l
  * at least one, the absolute timestamp 0x4000000000000000 with time / 1000.
  *
  * Numbers, in this order: 14; 10, 11; in a later settlement 1 to 4 front to back, then 5 and 6; in a first one 7; 12; 20;
- * 21; 22; 13. */
+ * in a later one 21; one of 22 to 25; 13. From 20 on they are waits. */
 #define FIBER_SETTLEMENT_CHOOSE_ANSWER 152
 #define FIBER_SETTLEMENT_CHOOSE_KIND 16 /* what is unlocked: */
 #define FIBER_SETTLEMENT_SHARE 0 /* our share */

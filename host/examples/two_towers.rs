@@ -184,13 +184,7 @@ impl Tower {
         };
         let mut out = vec![0; request.output_length()];
         match choose(&request, &mut out)? {
-            Outcome::Wait(Cause::NothingQualifies) => Ok(None),
-            // Our share was paid out. What still stands goes with the other side's last settlement.
-            Outcome::Wait(Cause::NotOurShare) => {
-                assert_eq!(owed.our_share, 0, "a share that was paid out");
-                Ok(None)
-            }
-            Outcome::Wait(cause) => Err(cause.to_string().into()),
+            Outcome::Wait(cause) => ordinary(cause, chain, owed).map(|()| None),
             Outcome::Unlock(chosen) => self.send(&chosen, chain, owed).map(Some),
         }
     }
@@ -223,6 +217,29 @@ impl Tower {
         let text = format!("{:?} takes {what}: {paid} of the {owed} that are owed{last}", self.who);
         Ok(Sent { witness: chosen.signed_witness(&[9; 65]), next, owed, paid, text })
     }
+}
+
+/// Goes on where time ends the wait, or the other side does.
+fn ordinary(cause: Cause, chain: &Chain, owed: &Owed) -> Result<(), Any> {
+    let is_first = chain.made_by.is_none();
+    match cause {
+        Cause::DelayNotDue => assert!(is_first && owed.tlcs.is_empty(), "no TLC to wait for"),
+        // The first TLC that we may still get, by its place among those that stand.
+        Cause::DelayOrExpiry { tlc } => assert!(is_first && tlc < owed.tlcs.len(), "a TLC that stands"),
+        Cause::ExpiryNotPassed { tlc } => {
+            let tlc = owed.tlcs[tlc];
+            assert_eq!(tlc.by_timeout, Side::Us, "a tower waits for its own");
+            assert!(tlc.expiry_ms >= Some(chain.median_ms), "a TLC that has not expired");
+        }
+        Cause::NoPreimage { tlc } => {
+            assert_eq!(owed.tlcs[tlc].by_preimage, Side::Us, "a tower waits for its own");
+        }
+        // Our share was paid out. What still stands goes with the other side's last settlement.
+        Cause::NotOurShare => assert_eq!(owed.our_share, 0, "a share that was paid out"),
+        // 20 and 23 cannot be: `choose` looks at the tracked list first, and that is made of the settlement TLCs.
+        cause => return Err(cause.to_string().into()),
+    }
+    Ok(())
 }
 
 fn way_name(way: Way) -> &'static str {

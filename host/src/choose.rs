@@ -113,7 +113,7 @@ impl<'a> Request<'a> {
     }
 
     /// As C takes it.
-    fn parts(&self) -> c::Choose<'a> {
+    pub(crate) fn parts(&self) -> c::Choose<'a> {
         c::Choose {
             first: first_parts(self.args.hash_length(), self.tlcs, self.balances),
             is_later: u8::from(self.witness.is_some()),
@@ -141,7 +141,7 @@ fn is_paid_or_of(share: Share, key: &PublicKey) -> Result<bool, Refusal> {
 pub enum Outcome<'a, 'o> {
     /// Unlock this now.
     Unlock(Chosen<'a, 'o>),
-    /// Nothing is wrong, and there is nothing to do yet.
+    /// There is nothing to unlock yet, and nothing was written. The cause says why, and for which TLC.
     Wait(Cause),
 }
 
@@ -330,7 +330,7 @@ impl fmt::Debug for Chosen<'_, '_> {
 ///
 /// // A little earlier there is nothing to do yet.
 /// request.tip_epoch = Epoch::new(12, 999, 1000)?;
-/// assert_eq!(choose(&request, &mut out)?, Outcome::Wait(Cause::NothingQualifies));
+/// assert_eq!(choose(&request, &mut out)?, Outcome::Wait(Cause::DelayNotDue));
 ///
 /// // It is the other side's commitment? The lock args say that it is not.
 /// let turned = SettlementTlcs::new(Commitment::Theirs, &[]);
@@ -346,12 +346,13 @@ impl fmt::Debug for Chosen<'_, '_> {
 /// settlement [`Refusal::CellAfterTip`]; [`Refusal::StateDiffers`]; in a later settlement [`Refusal::KeysDiffer`];
 /// [`Refusal::TrackedDiffers`]. Then the library's: [`Refusal::NoDelay`]; in a first settlement
 /// [`Refusal::LengthZero`]; [`Refusal::TooManyTlcs`]; [`Refusal::OutputShort`], which comes after the waits.
+/// [`Refusal::Abi`], [`Refusal::Answer`] and [`Refusal::Unknown`] tell that crate and library are not of one version.
 pub fn choose<'a, 'o>(request: &Request<'a>, out: &'o mut [u8]) -> Result<Outcome<'a, 'o>, Refusal> {
     c::ready()?;
     request.check()?;
     match c::choose(&request.parts(), out) {
         Ok(answer) => Ok(Outcome::Unlock(chosen(&Fields(answer), request, out)?)),
-        Err(code) => Cause::of(code).map(Outcome::Wait).ok_or_else(|| code.into()),
+        Err(code) => Cause::of(code, request.witness.is_some(), request.tracked.len()).map(Outcome::Wait),
     }
 }
 

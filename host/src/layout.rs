@@ -49,8 +49,15 @@ layout! {
     LIST_DIFFERS: u64 = 20;
     /// Wait: our share is not there.
     NOT_OUR_SHARE: u64 = 21;
-    /// Wait: nothing qualifies.
-    NOTHING_QUALIFIES: u64 = 22;
+    /// Wait: a first settlement without TLCs, and its delay is not due.
+    DELAY_NOT_DUE: u64 = 22;
+    /// Wait: a TLC without an absolute timestamp expiry or without a key; its place, from 0.
+    TLC_PASSED_OVER: u64 = 23;
+    /// Wait: a TLC whose part of the delay is not due, or by timeout whose expiry has not passed; its place.
+    TLC_NOT_DUE: u64 = 24;
+    /// Wait: a TLC by preimage, none that is stored counts, and its expiry has not passed (in a first settlement:
+    /// or the whole delay is not due); its place.
+    TLC_NO_PREIMAGE: u64 = 25;
 
     /// Where an answer has its number.
     NUMBER: usize = 0;

@@ -148,7 +148,8 @@
 //!
 //! # What to do on each number
 //!
-//! Every [`Refusal`] and every [`Cause`] of a wait prints as a sentence that says what to do.
+//! Every [`Refusal`] and every [`Cause`] of a wait prints as a sentence that says what to do. Of a choice the numbers from
+//! 20 on are waits. With 23 to 25 goes the place of the first TLC that is still pending ([`Cause::tlc`]).
 //!
 //! | Number | Case | What to do |
 //! |---|---|---|
@@ -161,7 +162,10 @@
 //! | 14 | [`Refusal::NotWell`] | The call is wrong. The types of this crate make no such call. |
 //! | 20 | [`Cause::ListDiffers`] | Wait. The tracked list is not what stands in the cell: scan the chain again. [`choose`] looks at that first, and says [`Refusal::TrackedDiffers`]. |
 //! | 21 | [`Cause::NotOurShare`] | Wait. Our share was paid out, and no TLC of this cell is taken any more: leave the cell. |
-//! | 22 | [`Cause::NothingQualifies`] | Wait. Ask again at the next tip. Where this stays past the delay and all expiries: is `cell_epoch` that of the cell's own block, and `time` the tip's median time? |
+//! | 22 | [`Cause::DelayNotDue`] | Wait. A first settlement without TLCs: ask again at the next tip. Where this stays past the delay: is `cell_epoch` that of the cell's own block? |
+//! | 23 | [`Cause::NoExpiryOrKey`] | Wait, and tell an operator: this TLC never comes due, and our share waits with it. Are the settlement TLCs whole, and is the record of this channel? Go on asking, since other TLCs may still come due. The types of this crate make no such request. |
+//! | 24 | [`Cause::ExpiryNotPassed`] in a later settlement, [`Cause::DelayOrExpiry`] in a first one | Wait. Ask again at the next tip. Where this stays past the TLC's expiry and its part of the delay: is `cell_epoch` that of the cell's own block, and `time` the tip's median time? |
+//! | 25 | [`Cause::NoPreimage`] | Wait. Ask again at the next tip, or as soon as the TLC's preimage is stored, with which it is chosen at once. |
 //! | none | the other cases of [`Refusal`] | This crate turned it down before the library was asked: parts that do not belong to one cell, or a preimage that is not the TLC's. |
 //!
 //! # What stays a host's duty

@@ -83,7 +83,7 @@ pub enum Refusal {
         /// Its place.
         place: u64,
     },
-    /// The library answered success with a field that its header does not have.
+    /// The library answered with a field that its header does not have, of a success or of a wait.
     Answer {
         /// Which field, by the header's name for it.
         field: &'static str,
@@ -335,8 +335,8 @@ impl Refusal {
         match *self {
             Refusal::Answer { field, value } => write!(
                 f,
-                "the library answered {value} in its field {field}, which its header does not have; build the crate \
-                 and the library from one version"
+                "the library answered {value} in its field {field}, which its header does not have there; build the \
+                 crate and the library from one version"
             ),
             Refusal::Abi { library, expected } => write!(
                 f,
@@ -355,13 +355,21 @@ impl Refusal {
 
 impl Error for Refusal {}
 
-/// Why a choice waits. Nothing is wrong and nothing was written: the same may be asked again at the next tip.
+/// Why a choice waits. Nothing was written, and the same may be asked again at the next tip.
+///
+/// The cases with a `tlc` name the first TLC that is still pending, by its place in the state and in
+/// [`Request::tracked`](crate::Request::tracked), from 0: `request.tracked.iter().nth(tlc)` has its payment hash and
+/// its record. Where several fit that TLC, it is the one with the lowest number. A TLC behind it may come due sooner,
+/// so a tower goes on asking at every tip. Never named is a TLC that is given up: they offered it, no stored preimage
+/// counts for it, and it has expired; in a first settlement the whole delay must be due too.
 ///
 /// ```
 /// use fiber_settlement::Cause;
 ///
-/// assert_eq!((Cause::NothingQualifies.number(), Cause::NothingQualifies.place()), (22, 0));
-/// assert!(Cause::NothingQualifies.to_string().contains("ask again at the next tip"));
+/// let cause = Cause::ExpiryNotPassed { tlc: 3 };
+/// assert_eq!((cause.number(), cause.place(), cause.tlc()), (24, 3, Some(3)));
+/// assert!(cause.to_string().starts_with("waits for TLC 3: its expiry has not passed; ask again at the next tip"));
+/// assert_eq!((Cause::DelayNotDue.number(), Cause::DelayNotDue.tlc()), (22, None));
 /// ```
 #[derive(Clone, Copy, Debug, PartialEq, Eq, Hash)]
 #[non_exhaustive]
@@ -369,23 +377,65 @@ pub enum Cause {
     /// 20: the tracked list differs from the TLCs that stand. [`choose`](crate::choose) looks at that before the
     /// library is asked ([`Refusal::TrackedDiffers`]), so it does not answer this.
     ListDiffers,
-    /// 21: our share was paid out. From then on the core, as the reference, takes no TLC of this cell any more, also
-    /// with a preimage that comes later; the other side's next settlement takes the whole cell.
+    /// 21, in a later settlement: our share was paid out. From then on the core, as the reference, takes no TLC of this
+    /// cell any more, also with a preimage that comes later; the other side's next settlement takes the whole cell.
     NotOurShare,
-    /// 22: nothing qualifies yet. Where this stays past the delay and all expiries, look whether
+    /// 22: a first settlement without TLCs, and the whole delay is not due. Where this stays past the delay, look
+    /// whether [`Request::cell_epoch`](crate::Request::cell_epoch) is that of the cell's own block.
+    DelayNotDue,
+    /// 23, in a later settlement: the TLC's expiry is no absolute timestamp, or no settlement TLC has its hash and our
+    /// key. No time and no preimage makes it due, and till the last settlement our share waits with it: an operator has
+    /// to look. Tracked TLCs are made from the settlement TLCs, whose records have both, so
+    /// [`choose`](crate::choose) does not answer this.
+    NoExpiryOrKey {
+        /// Its place.
+        tlc: usize,
+    },
+    /// 24, in a later settlement: we offered the TLC, and its expiry has not passed. Where this stays past the expiry,
+    /// look whether [`Request::time`](crate::Request::time) is the tip's median time.
+    ExpiryNotPassed {
+        /// Its place.
+        tlc: usize,
+    },
+    /// 24, in a first settlement: the TLC's part of the delay is not due, two thirds where we offered it and one third
+    /// where they did; or we offered it, and its expiry has not passed. Where this stays past both, look whether
     /// [`Request::cell_epoch`](crate::Request::cell_epoch) is that of the cell's own block and
     /// [`Request::time`](crate::Request::time) the tip's median time.
-    NothingQualifies,
+    DelayOrExpiry {
+        /// Its place.
+        tlc: usize,
+    },
+    /// 25: they offered the TLC, no stored preimage counts for it, and it is not given up yet: its expiry has not
+    /// passed, or in a first settlement the whole delay is not due. With a preimage that comes it is chosen at once.
+    NoPreimage {
+        /// Its place.
+        tlc: usize,
+    },
 }
 
 impl Cause {
-    /// The wait that a number means, if it means one.
-    pub(crate) const fn of(code: Code) -> Option<Cause> {
+    /// The wait that a choice's number and place mean, or why the choice was turned down. `standing` is how many TLCs
+    /// stand. A number or a place that the header does not have for such a choice is turned down, not guessed: a
+    /// library from before 23 to 25 has the same ABI number, and says 22 for all of them.
+    pub(crate) fn of(code: Code, is_later: bool, standing: usize) -> Result<Cause, Refusal> {
+        let odd = |field, value| Refusal::Answer { field, value };
+        let named = || match usize::try_from(code.place) {
+            Ok(tlc) if tlc < standing => Ok(tlc),
+            _ => Err(odd("PLACE", code.place)),
+        };
+        let unplaced = |cause| if code.place == 0 { Ok(cause) } else { Err(odd("PLACE", code.place)) };
         match code.number {
-            layout::LIST_DIFFERS => Some(Cause::ListDiffers),
-            layout::NOT_OUR_SHARE => Some(Cause::NotOurShare),
-            layout::NOTHING_QUALIFIES => Some(Cause::NothingQualifies),
-            _ => None,
+            layout::LIST_DIFFERS => unplaced(Cause::ListDiffers),
+            layout::NOT_OUR_SHARE if is_later => unplaced(Cause::NotOurShare),
+            layout::DELAY_NOT_DUE if !is_later && standing == 0 => unplaced(Cause::DelayNotDue),
+            layout::TLC_PASSED_OVER if is_later => named().map(|tlc| Cause::NoExpiryOrKey { tlc }),
+            layout::TLC_NOT_DUE if is_later => named().map(|tlc| Cause::ExpiryNotPassed { tlc }),
+            layout::TLC_NOT_DUE => named().map(|tlc| Cause::DelayOrExpiry { tlc }),
+            layout::TLC_NO_PREIMAGE => named().map(|tlc| Cause::NoPreimage { tlc }),
+            layout::NOT_OUR_SHARE | layout::DELAY_NOT_DUE | layout::TLC_PASSED_OVER => {
+                Err(odd("NUMBER", code.number))
+            }
+            _ => Err(code.into()),
         }
     }
 
@@ -394,32 +444,76 @@ impl Cause {
         match self {
             Cause::ListDiffers => layout::LIST_DIFFERS,
             Cause::NotOurShare => layout::NOT_OUR_SHARE,
-            Cause::NothingQualifies => layout::NOTHING_QUALIFIES,
+            Cause::DelayNotDue => layout::DELAY_NOT_DUE,
+            Cause::NoExpiryOrKey { .. } => layout::TLC_PASSED_OVER,
+            Cause::ExpiryNotPassed { .. } | Cause::DelayOrExpiry { .. } => layout::TLC_NOT_DUE,
+            Cause::NoPreimage { .. } => layout::TLC_NO_PREIMAGE,
         }
     }
 
-    /// The place that goes with it. All causes of today have 0.
+    /// The place that goes with it: that of the TLC, else 0.
     pub const fn place(&self) -> u64 {
-        0
+        match self.tlc() {
+            Some(tlc) => tlc as u64,
+            None => 0,
+        }
+    }
+
+    /// The place of the TLC that is waited for, from 0, in the state and in
+    /// [`Request::tracked`](crate::Request::tracked). `None` where it is not for a TLC.
+    pub const fn tlc(&self) -> Option<usize> {
+        match *self {
+            Cause::ListDiffers | Cause::NotOurShare | Cause::DelayNotDue => None,
+            Cause::NoExpiryOrKey { tlc }
+            | Cause::ExpiryNotPassed { tlc }
+            | Cause::DelayOrExpiry { tlc }
+            | Cause::NoPreimage { tlc } => Some(tlc),
+        }
+    }
+
+    /// What is waited for, and what to do.
+    const fn about(&self) -> &'static str {
+        match self {
+            Cause::ListDiffers => {
+                "the tracked list is not what stands in the cell; scan the chain again, and where this stays look \
+                 whose commitment it is"
+            }
+            Cause::NotOurShare => {
+                "our share was paid out, and after it no TLC of this cell is taken any more, also with a preimage that \
+                 comes later; leave the cell, which the other side's next settlement takes whole"
+            }
+            Cause::DelayNotDue => {
+                "no TLC stands in the cell, and the whole delay is not due; ask again at the next tip, and where this \
+                 stays past the delay look whether cell_epoch is that of the cell's own block"
+            }
+            Cause::NoExpiryOrKey { .. } => {
+                "its expiry is no absolute timestamp, or no settlement TLC has its hash and our key, so that it never \
+                 comes due and our share waits with it; tell an operator, and look whether the settlement TLCs are \
+                 whole and the record is of this channel; go on asking, since other TLCs may still come due"
+            }
+            Cause::ExpiryNotPassed { .. } => {
+                "its expiry has not passed; ask again at the next tip, and where this stays past the expiry look \
+                 whether the time is the tip's median time"
+            }
+            Cause::DelayOrExpiry { .. } => {
+                "its part of the delay is not due, two thirds by timeout and one third by preimage, or by timeout its \
+                 expiry has not passed; ask again at the next tip, and where this stays past both look whether \
+                 cell_epoch is that of the cell's own block and the time the tip's median time"
+            }
+            Cause::NoPreimage { .. } => {
+                "no stored preimage counts for it; store its preimage, with which it is chosen at once, or ask again \
+                 at the next tip, since it is given up for our share once its expiry has passed, in a first settlement \
+                 also the whole delay"
+            }
+        }
     }
 }
 
 impl fmt::Display for Cause {
     fn fmt(&self, f: &mut fmt::Formatter<'_>) -> fmt::Result {
-        f.write_str(match self {
-            Cause::ListDiffers => {
-                "wait: the tracked list is not what stands in the cell; scan the chain again, and where this stays look \
-                 whose commitment it is"
-            }
-            Cause::NotOurShare => {
-                "wait: our share was paid out, and after it no TLC of this cell is taken any more, also with a \
-                 preimage that comes later; leave the cell, which the other side's next settlement takes whole"
-            }
-            Cause::NothingQualifies => {
-                "wait: no delay, no expiry and no preimage allows an unlock yet; ask again at the next tip, and where \
-                 this stays past the delay and all expiries, look whether cell_epoch is that of the cell's own block \
-                 and the time the tip's median time"
-            }
-        })
+        match self.tlc() {
+            Some(tlc) => write!(f, "waits for TLC {tlc}: {}", self.about()),
+            None => write!(f, "wait: {}", self.about()),
+        }
     }
 }

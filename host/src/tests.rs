@@ -7,3 +7,4 @@ mod misuse;
 mod refusals;
 mod replay;
 mod update;
+mod waits;

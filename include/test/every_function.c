@@ -501,11 +501,11 @@ static void choosing(size_t h, uint8_t for_remote)
         same_bytes("preimage", out + FIBER_SETTLEMENT_UNLOCK_SIGNATURE + FIBER_SETTLEMENT_SIGNATURE, preimage, sizeof preimage);
     } else {
         r.time = START + 5999;
-        turned_down("expiry not past", ask(&r), FIBER_SETTLEMENT_NOTHING_QUALIFIES, 0);
+        turned_down("expiry not past", ask(&r), FIBER_SETTLEMENT_TLC_NOT_DUE, 0);
         r.time = START + 6000;
         r.current.number = 104;
         r.current.index = 1;
-        turned_down("two thirds not due", ask(&r), FIBER_SETTLEMENT_NOTHING_QUALIFIES, 0);
+        turned_down("two thirds not due", ask(&r), FIBER_SETTLEMENT_TLC_NOT_DUE, 0);
         r.current.index = 2;
         chosen(&r, FIBER_SETTLEMENT_BY_TIMEOUT, 0, 100, 4, 0);
     }
@@ -519,6 +519,152 @@ static void choosing(size_t h, uint8_t for_remote)
     turned_down("our share is paid", ask(&r), FIBER_SETTLEMENT_NOT_OUR_SHARE, 0);
     change_sides(&r);
     chosen(&r, FIBER_SETTLEMENT_SHARE, theirs, 7, 0, 1);
+}
+
+/* ---- the waits ---- */
+
+/* Four TLCs with hashes of their own: ours by timeout, by preimage, by timeout, by preimage. They expire 1,999, 5,999, 20,999 and 30,999 ms
+ * after START, by their records 1,000, 5,000, 20,000 and 30,000. */
+enum { FOUR = 4, ENTRY = FIBER_SETTLEMENT_TLC, MOST_TRACKED = FIBER_SETTLEMENT_TRACKED(FIBER_SETTLEMENT_H_FULL) };
+static uint8_t four[FOUR * ENTRY], four_tracked[FOUR * MOST_TRACKED];
+static uint8_t four_witness[1 + FIBER_SETTLEMENT_STATE(FIBER_SETTLEMENT_H_FULL, FOUR) + FIBER_SETTLEMENT_UNLOCK];
+
+static void put_four(size_t h, uint8_t for_remote)
+{
+    const uint64_t expiry[FOUR] = {1999, 5999, 20999, 30999};
+    uint8_t shown[FIBER_SETTLEMENT_HASH] = {0};
+    size_t i;
+    for (i = 0; i < FOUR; i++) {
+        uint8_t *tlc = four + i * ENTRY;
+        put_tlc(tlc, (uint8_t)(i % 2 ? for_remote : !for_remote)); /* received: the owner offered it */
+        shown[0] = (uint8_t)i;
+        fiber_settlement_sha256(shown, sizeof shown, tlc + FIBER_SETTLEMENT_TLC_HASH);
+        put_le(tlc + FIBER_SETTLEMENT_TLC_EXPIRY, START + expiry[i]);
+        same("tracked of four", fiber_settlement_put_tracked(h, for_remote, tlc, ENTRY, four_tracked + i * FIBER_SETTLEMENT_TRACKED(h), FIBER_SETTLEMENT_TRACKED(h)), 0);
+    }
+    memset(pairs, 0, sizeof pairs);
+    shown[0] = 1;
+    memcpy(pairs, four + ENTRY + FIBER_SETTLEMENT_TLC_HASH, FIBER_SETTLEMENT_HASH);
+    memcpy(pairs + FIBER_SETTLEMENT_PAIR_PREIMAGE, shown, sizeof shown); /* of the second */
+}
+
+/* A first settlement of these from the place `from` on. */
+static struct fiber_settlement_request first_of_four(size_t h, uint8_t for_remote, size_t from)
+{
+    struct fiber_settlement_request r = request_of(h, for_remote, START, 0);
+    put_four(h, for_remote);
+    r.tlcs = lent(four + from * ENTRY, (FOUR - from) * ENTRY);
+    r.tracked = lent(four_tracked + from * FIBER_SETTLEMENT_TRACKED(h), (FOUR - from) * FIBER_SETTLEMENT_TRACKED(h));
+    return r;
+}
+
+/* A later settlement: an unlock of this byte has made the cell. */
+static struct fiber_settlement_request later_of_four(size_t h, uint8_t for_remote, uint8_t byte)
+{
+    struct fiber_settlement_request r = first_of_four(h, for_remote, 0);
+    const size_t len = FIBER_SETTLEMENT_STATE(h, FOUR);
+    uint8_t written[FIBER_SETTLEMENT_WRITTEN_ANSWER];
+    memset(four_witness, 0, sizeof four_witness);
+    same("state of four", fiber_settlement_first_state(h, for_remote, 5, 0, 7, 1, four, sizeof four, our_key, sizeof our_key, their_key, sizeof their_key,
+                                                       four_witness + FIBER_SETTLEMENT_WITNESS_COUNT, len, written, sizeof written), 0);
+    four_witness[0] = 1;
+    four_witness[1 + len] = byte;
+    args[FIBER_SETTLEMENT_ARGS_LATER] = 1;
+    r.witness = lent(four_witness, 1 + len + FIBER_SETTLEMENT_UNLOCK);
+    r.tracked.len = fiber_settlement_follow(h, four_witness, r.witness.len, four_tracked, r.tracked.len);
+    return r;
+}
+
+static void waits(const char *what, struct fiber_settlement_request *r, uint64_t time, uint64_t epochs, uint64_t number, uint64_t place)
+{
+    r->time = START + time;
+    r->current.number = 100 + epochs;
+    turned_down(what, ask(r), number, place);
+    fresh();
+    turned_down(what, fiber_settlement_choose_request(r, NULL, 0, answer, sizeof answer), number, place); /* before 13 */
+}
+
+/* The delay is 6 epochs. */
+static void first_waits(size_t h, uint8_t for_remote)
+{
+    struct fiber_settlement_request r = first_of_four(h, for_remote, FOUR);
+    waits("no TLC", &r, 0, 5, FIBER_SETTLEMENT_DELAY_NOT_DUE, 0);
+    waits("no TLC, in the tip", &r, 99999, 0, FIBER_SETTLEMENT_DELAY_NOT_DUE, 0);
+
+    r = first_of_four(h, for_remote, 0);
+    waits("two thirds", &r, 99999, 3, FIBER_SETTLEMENT_TLC_NOT_DUE, 0);
+    waits("first expiry", &r, 1999, 6, FIBER_SETTLEMENT_TLC_NOT_DUE, 0);
+
+    r = first_of_four(h, for_remote, 1);
+    r.preimages = lent(pairs, sizeof pairs);
+    waits("a third, with a preimage", &r, 99999, 1, FIBER_SETTLEMENT_TLC_NOT_DUE, 0);
+    r.preimages = lent(NULL, 0);
+    waits("a third", &r, 0, 1, FIBER_SETTLEMENT_TLC_NOT_DUE, 0);
+    waits("no preimage", &r, 0, 2, FIBER_SETTLEMENT_TLC_NO_PREIMAGE, 0);
+    waits("no preimage, expired", &r, 99999, 3, FIBER_SETTLEMENT_TLC_NO_PREIMAGE, 0);
+    waits("no preimage, all due", &r, 5999, 6, FIBER_SETTLEMENT_TLC_NO_PREIMAGE, 0);
+    waits("one given up", &r, 6000, 6, FIBER_SETTLEMENT_TLC_NOT_DUE, 1);
+    waits("one given up, second expiry", &r, 20999, 6, FIBER_SETTLEMENT_TLC_NOT_DUE, 1);
+
+    /* The second and the fourth alone: both are ours by preimage. */
+    memcpy(four + 2 * ENTRY, four + 3 * ENTRY, ENTRY);
+    memcpy(four_tracked + 2 * FIBER_SETTLEMENT_TRACKED(h), four_tracked + 3 * FIBER_SETTLEMENT_TRACKED(h), FIBER_SETTLEMENT_TRACKED(h));
+    r.tlcs.len = 2 * ENTRY;
+    r.tracked.len = 2 * FIBER_SETTLEMENT_TRACKED(h);
+    waits("both by preimage", &r, 6000, 6, FIBER_SETTLEMENT_TLC_NO_PREIMAGE, 1);
+    waits("both by preimage, last expiry", &r, 30999, 6, FIBER_SETTLEMENT_TLC_NO_PREIMAGE, 1);
+    r.time = START + 31000;
+    chosen(&r, FIBER_SETTLEMENT_SHARE, for_remote ? FIBER_SETTLEMENT_UNLOCK_LOCAL : FIBER_SETTLEMENT_UNLOCK_REMOTE, 5, 6, 0);
+}
+
+/* With the first one settled the other three stand, at the places 0 to 2. Epochs are not looked at. */
+static void later_waits(size_t h, uint8_t for_remote)
+{
+    struct fiber_settlement_request r = later_of_four(h, for_remote, 0);
+    same("three stand", r.tracked.len, 3 * FIBER_SETTLEMENT_TRACKED(h));
+    waits("no preimage", &r, 0, 0, FIBER_SETTLEMENT_TLC_NO_PREIMAGE, 0);
+    waits("no preimage, first expiry", &r, 5000, 0, FIBER_SETTLEMENT_TLC_NO_PREIMAGE, 0);
+    waits("one given up", &r, 5001, 0, FIBER_SETTLEMENT_TLC_NOT_DUE, 1);
+    waits("one given up, second expiry", &r, 20000, 0, FIBER_SETTLEMENT_TLC_NOT_DUE, 1);
+
+    /* Another key of ours than the third's record has: what is pending before it comes first, and no time ends it. */
+    four[2 * ENTRY + FIBER_SETTLEMENT_TLC_LOCAL_KEY] ^= 1;
+    waits("no key, and one before it", &r, 5000, 0, FIBER_SETTLEMENT_TLC_NO_PREIMAGE, 0);
+    waits("no key", &r, 5001, 0, FIBER_SETTLEMENT_TLC_PASSED_OVER, 1);
+    waits("no key, expired", &r, 99999, 0, FIBER_SETTLEMENT_TLC_PASSED_OVER, 1);
+    /* Without a list, also with a preimage. */
+    r.tlcs = lent(NULL, 0);
+    r.preimages = lent(pairs, sizeof pairs);
+    waits("no list", &r, 0, 0, FIBER_SETTLEMENT_TLC_PASSED_OVER, 0);
+    waits("no list, expired", &r, 99999, 0, FIBER_SETTLEMENT_TLC_PASSED_OVER, 0);
+
+    /* The second one's record has a block number for its expiry. */
+    r = later_of_four(h, for_remote, 0);
+    put_le(four_tracked + FIBER_SETTLEMENT_TRACKED_RECORD + 57 + h, 5);
+    waits("records differ", &r, 0, 0, FIBER_SETTLEMENT_LIST_DIFFERS, 0);
+    put_le(four_witness + FIBER_SETTLEMENT_WITNESS_TLCS + FIBER_SETTLEMENT_RECORD(h) + 57 + h, 5);
+    waits("no expiry", &r, 0, 0, FIBER_SETTLEMENT_TLC_PASSED_OVER, 0);
+    waits("no expiry, late", &r, 20000, 0, FIBER_SETTLEMENT_TLC_PASSED_OVER, 0);
+    r.preimages = lent(pairs, sizeof pairs);
+    waits("no expiry, with a preimage", &r, 20000, 0, FIBER_SETTLEMENT_TLC_PASSED_OVER, 0);
+
+    /* The third one settled: the first, by timeout, stands in front of two by preimage. */
+    r = later_of_four(h, for_remote, 2);
+    waits("the first", &r, 1000, 0, FIBER_SETTLEMENT_TLC_NOT_DUE, 0);
+    memcpy(four, four + ENTRY, ENTRY); /* its key is gone */
+    waits("no key, not expired", &r, 1000, 0, FIBER_SETTLEMENT_TLC_PASSED_OVER, 0);
+}
+
+/* A share that was paid out is told before any TLC, and in the last settlement none is looked at. */
+static void paid_waits(size_t h, uint8_t for_remote)
+{
+    const uint8_t ours = for_remote ? FIBER_SETTLEMENT_UNLOCK_LOCAL : FIBER_SETTLEMENT_UNLOCK_REMOTE;
+    const uint8_t theirs = for_remote ? FIBER_SETTLEMENT_UNLOCK_REMOTE : FIBER_SETTLEMENT_UNLOCK_LOCAL;
+    struct fiber_settlement_request r = later_of_four(h, for_remote, ours);
+    waits("our share is paid, four stand", &r, 0, 0, FIBER_SETTLEMENT_NOT_OUR_SHARE, 0);
+    r = later_of_four(h, for_remote, theirs);
+    r.tlcs = lent(NULL, 0);
+    chosen(&r, FIBER_SETTLEMENT_SHARE, ours, 5, 0, 1);
 }
 
 /* What is left out of a request is refused. */
@@ -655,6 +801,9 @@ int main(void)
             recording(lengths[i], for_remote);
             stating(lengths[i], for_remote);
             choosing(lengths[i], for_remote);
+            first_waits(lengths[i], for_remote);
+            later_waits(lengths[i], for_remote);
+            paid_waits(lengths[i], for_remote);
         }
     left_out();
     cannot_be();

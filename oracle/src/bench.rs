@@ -152,7 +152,7 @@ pub fn run() {
 /// A settlement of `n` TLCs that are all received and expired, the whole delay due. With `matching` each has a pair,
 /// of which the last alone counts, so that every TLC is walked and the last is chosen. Without, no pair has a TLC's
 /// hash, and in a later settlement no settlement TLC has one either: a first settlement ends at our share, a later one
-/// waits.
+/// waits for its first TLC (23).
 fn request(h: u64, n: usize, is_later: bool, matching: bool) -> Request {
     let mut random = Random::of(1, "bench, choice", n as u64);
     let tlcs: Vec<Tlc> = (0..n)

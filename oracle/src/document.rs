@@ -33,7 +33,7 @@ pub struct Row {
 pub enum InRust {
     /// Turned down there too, without a number.
     TurnedDown,
-    /// Waited for there too; marks of the stand-ins tell the number.
+    /// Waited for there too; marks of the stand-ins tell 20, 21 and a wait of the walk (22 to 25) apart.
     Waits,
     /// Outside the equality: added by document 01, or no such input can be handed to the Rust.
     Outside,

@@ -1,15 +1,16 @@
 //! The kinds of cases that can be compared. A new kind implements `Kind` in a file of its own and gets a line in
 //! `TABLE`; its export is declared in port.rs.
 
-use crate::document::{Document, Epoch};
+use crate::document::{Document, Epoch, Row};
 use crate::port::Called;
 use crate::random::Random;
 use crate::reference::calls::Rust;
 use crate::run::{self, Options, Tally};
 use std::collections::BTreeSet;
+use waits::Waits;
 
 pub mod chain;
-mod choice;
+pub mod choice;
 mod due;
 mod expiry;
 pub mod first;
@@ -19,6 +20,7 @@ mod mul;
 mod read;
 pub mod settlement;
 mod update;
+pub mod waits;
 pub mod witness;
 
 /// One operation, on three sides: document 01, the Rust, the port.
@@ -58,6 +60,11 @@ pub trait Kind {
         Self::random(random)
     }
 
+    /// More lines of the dump, behind all others of the kind.
+    fn picked_for_dump() -> Vec<Self::Input> {
+        vec![]
+    }
+
     fn document(input: &Self::Input) -> Document<Self::Value>;
     /// Asked only where document 01 says that the two are equal, and not where `not_shown` holds.
     fn rust(input: &Self::Input) -> Rust<Self::Value>;
@@ -76,6 +83,9 @@ pub trait Kind {
     fn class(_input: &Self::Input, _value: &Self::Value) -> &'static str {
         "values"
     }
+
+    /// Counts a row that is a wait of the walk.
+    fn count_wait(_input: &Self::Input, _row: &Row, _waits: &mut Waits) {}
 
     /// The length of the output buffer that the dump lends; 0 where the call has none.
     fn dump_output(_input: &Self::Input) -> usize {

@@ -217,11 +217,11 @@ const DUMP_HEADER: &str = "\
 #
 # An answer buffer begins with number and place. A taken input is 0 0 0, status, number and place, and then the fields
 # told below: these and the output are the Rust's answer, laid out as the C interface does, with the lengths of outputs
-# and whether there is an expiry. Three numbers alone are a refusal or a wait (20, 21, 22), status, number and place. The
-# status is the number, and number and place are from document 01's table, as the Rust tells neither: in lines of `mul`
-# it says None to the same inputs; in lines of `read`, `update`, `first` and `pick` it turns them down or waits too, but
-# for 6, 7, 13 and 14, and 10 of args of 28 to 35 bytes, for which it is not asked. `ckb` and `sha256` have no answer
-# buffer and no status, and 0 is in the status's place.
+# and whether there is an expiry. Three numbers alone are a refusal or a wait (20 to 25), status, number and place. The
+# status is the number, and number and place are from document 01's table, 22 to 25 from change request W1's, as the Rust
+# tells neither: in lines of `mul` it says None to the same inputs; in lines of `read`, `update`, `first` and `pick` it
+# turns them down or waits too, but for 6, 7, 13 and 14, and 10 of args of 28 to 35 bytes, for which it is not asked.
+# `ckb` and `sha256` have no answer buffer and no status, and 0 is in the status's place.
 #
 #   mul     number index length numerator denominator = number index length
 #   due     header, delay and current, each as number index length = 1 if due, else 0

@@ -27,7 +27,7 @@ fn by_rust<V: Display>(answer: Rust<V>) -> String {
     match answer {
         Rust::Value(value) => value.to_string(),
         Rust::TurnedDown => "turned down, without a number".to_string(),
-        Rust::Wait(number) => format!("waits ({number})"),
+        Rust::Wait(wait) => wait.to_string(),
         Rust::Panicked(text) => format!("panics: {text}"),
         Rust::NotModelled(not_modelled) => not_shown(&not_modelled),
     }
@@ -40,7 +40,7 @@ fn not_shown(n: &NotModelled) -> String {
 fn chosen(choice: &Choice) -> String {
     match choice {
         Choice::Chosen(c) => format!("chosen, unlock byte {:#04x}", c.unlock[0]),
-        Choice::Wait(number) => format!("waits ({number})"),
+        Choice::Wait(wait) => wait.to_string(),
         Choice::Unread => "the reader turns it down, without a place".to_string(),
         Choice::Error(text) => format!("turned down: {text}"),
         Choice::Panic => "panics".to_string(),

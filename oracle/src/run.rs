@@ -1,6 +1,7 @@
 //! Runs cases of a kind: many, one alone, or as lines of the dump.
 
 use crate::document::{Document, InRust};
+use crate::kinds::waits::Waits;
 use crate::kinds::Kind;
 use crate::port::{Called, Reply};
 use crate::random::Random;
@@ -33,6 +34,8 @@ pub struct Tally {
     rows: BTreeMap<(InRust, u64, &'static str), u64>,
     /// Inside the equality, but the Rust was not asked: what it does there is not in its text.
     not_shown: u64,
+    /// Waits of the walk by what they name.
+    waits: Waits,
     pub failures: u64,
     time: Duration,
 }
@@ -46,7 +49,10 @@ impl Tally {
         }
         match document {
             Document::Value(value) => *self.values.entry(K::class(input, value)).or_default() += 1,
-            Document::Row(row, _) => *self.rows.entry((row.rust, row.number, row.cause)).or_default() += 1,
+            Document::Row(row, _) => {
+                *self.rows.entry((row.rust, row.number, row.cause)).or_default() += 1;
+                K::count_wait(input, row, &mut self.waits);
+            }
         }
     }
 
@@ -94,6 +100,7 @@ impl fmt::Display for Tally {
                 numbers.iter().map(|(number, count)| format!("{number}: {count}")).collect();
             writeln!(f, "  rows reached, number and count: {}", numbers.join("; "))?;
         }
+        write!(f, "{}", self.waits)?;
         if alone > 0 {
             writeln!(f, "  compared with document 01 alone: {alone} ({alone_text})")?;
         }
@@ -149,8 +156,8 @@ impl<V: PartialEq> Answers<V> {
             (None, _) => true,
             (Some(Rust::Value(a)), Document::Value(b)) => a == b,
             (Some(Rust::TurnedDown), Document::Row(row, _)) => row.rust == InRust::TurnedDown,
-            (Some(Rust::Wait(number)), Document::Row(row, _)) => {
-                row.rust == InRust::Waits && row.number == *number
+            (Some(Rust::Wait(wait)), Document::Row(row, _)) => {
+                row.rust == InRust::Waits && wait.is(row.number)
             }
             _ => false,
         };
@@ -181,7 +188,7 @@ impl<V: PartialEq> Answers<V> {
             (_, None | Some(Rust::NotModelled(_))) => true,
             (Reply::Value(a), Some(Rust::Value(b))) => a == b,
             (Reply::Refused { .. }, Some(Rust::TurnedDown)) => true,
-            (Reply::Refused { number, .. }, Some(Rust::Wait(wait))) => number == wait,
+            (Reply::Refused { number, .. }, Some(Rust::Wait(wait))) => wait.is(*number),
             _ => false,
         };
         if !port_as_rust {
@@ -199,7 +206,7 @@ impl<V: PartialEq> Answers<V> {
             None => "not asked: outside the equality, or not shown by its text".to_string(),
             Some(Rust::Value(value)) => K::show_value(value),
             Some(Rust::TurnedDown) => "turned down".to_string(),
-            Some(Rust::Wait(number)) => format!("waits ({number})"),
+            Some(Rust::Wait(wait)) => wait.to_string(),
             Some(Rust::Panicked(text)) => format!("panic: {text}"),
             Some(Rust::NotModelled(n)) => format!("not shown: {} was handed {}", n.what, n.handed),
         };
@@ -238,6 +245,19 @@ pub fn reached<K: Kind>(cases: u64) -> BTreeSet<String> {
     (0..cases).map(answer).collect()
 }
 
+/// The waits of the walk that document 01 answers in the first cases.
+pub fn waits<K: Kind>(cases: u64) -> Waits {
+    let edges = K::edges();
+    let mut waits = Waits::default();
+    for case in 0..cases {
+        let input = input::<K>(&edges, 1, case);
+        if let Document::Row(row, _) = K::document(&input) {
+            K::count_wait(&input, &row, &mut waits);
+        }
+    }
+    waits
+}
+
 pub fn compare<K: Kind>(options: &Options) -> Tally {
     let start = Instant::now();
     let mut tally = Tally {
@@ -247,6 +267,7 @@ pub fn compare<K: Kind>(options: &Options) -> Tally {
         values: BTreeMap::new(),
         rows: BTreeMap::new(),
         not_shown: 0,
+        waits: Waits::default(),
         failures: 0,
         time: Duration::ZERO,
     };
@@ -297,39 +318,47 @@ pub fn one<K: Kind>(seed: u64, case: u64, port: bool) -> bool {
     faults.is_empty()
 }
 
-/// Lines `kind inputs = answer` with the Rust's answers: the edges first, then random inputs. A row is told by
-/// document 01's number and place, and the Rust has to turn it down too where it can be asked.
+/// A line `kind inputs = answer` of the dump with the Rust's answer, and what it is alike with. A row is told by document
+/// 01's number and place, and the Rust has to turn it down or wait too where it can be asked.
+fn line<K: Kind>(input: &K::Input) -> Option<(String, String)> {
+    let document = K::document(input);
+    let class = class::<K>(input, &document);
+    let with_rust = document.inside() && !K::not_shown(input);
+    let rust = with_rust.then(|| calls::caught(|| K::rust(input)));
+    // Waits of the walk are alike, as they are in the Rust.
+    let alike = match &rust {
+        Some(Rust::Wait(wait)) => wait.to_string(),
+        _ => class,
+    };
+    let answer = match (rust, document) {
+        (Some(Rust::Value(value)), _) => format!("{} {}", K::DUMP_FRONT, K::show_value(&value)),
+        // The status, and of the answer buffer number and place.
+        (None, Document::Row(row, place)) if K::DUMP_ROWS => format!("{0} {0} {place}", row.number),
+        (Some(Rust::TurnedDown), Document::Row(row, place)) => format!("{0} {0} {place}", row.number),
+        (Some(Rust::Wait(wait)), Document::Row(row, place)) if wait.is(row.number) => {
+            format!("{0} {0} {place}", row.number)
+        }
+        _ => return None,
+    };
+    let output = K::dump_output(input);
+    Some((alike, format!("{} {output} {} = {answer}", K::DUMP_NAME, K::show_input(input))))
+}
+
+/// The lines of a kind: the edges first, then random inputs, of which so many are alike at most; then those picked.
 pub fn dump<K: Kind>(seed: u64) -> Vec<String> {
     let random = (0..).map(|case| K::random_for_dump(&mut Random::of(seed, K::NAME, case)));
     let mut seen = HashSet::new();
-    let mut alike: HashMap<String, usize> = HashMap::new();
-    K::edges_for_dump()
-        .into_iter()
-        .chain(random)
-        .filter_map(|input| {
-            let document = K::document(&input);
-            let class = class::<K>(&input, &document);
-            let with_rust = document.inside() && !K::not_shown(&input);
-            let rust = with_rust.then(|| calls::caught(|| K::rust(&input)));
-            let answer = match (rust, document) {
-                (Some(Rust::Value(value)), _) => format!("{} {}", K::DUMP_FRONT, K::show_value(&value)),
-                // The status, and of the answer buffer number and place.
-                (None, Document::Row(row, place)) if K::DUMP_ROWS => format!("{0} {0} {place}", row.number),
-                (Some(Rust::TurnedDown), Document::Row(row, place)) => format!("{0} {0} {place}", row.number),
-                (Some(Rust::Wait(number)), Document::Row(row, place)) if number == row.number => {
-                    format!("{number} {number} {place}")
-                }
-                _ => return None,
-            };
-            let output = K::dump_output(&input);
-            let line = format!("{} {output} {} = {answer}", K::DUMP_NAME, K::show_input(&input));
-            if !seen.insert(line.clone()) {
-                return None;
-            }
-            let so_far = alike.entry(class).or_default();
-            *so_far += 1;
-            (*so_far <= K::DUMP_ALIKE).then_some(line)
-        })
-        .take(K::DUMP_LINES)
-        .collect()
+    let mut counts: HashMap<String, usize> = HashMap::new();
+    let sample = K::edges_for_dump().into_iter().chain(random).filter_map(|input| {
+        let (alike, line) = line::<K>(&input)?;
+        if !seen.insert(line.clone()) {
+            return None;
+        }
+        let so_far = counts.entry(alike).or_default();
+        *so_far += 1;
+        (*so_far <= K::DUMP_ALIKE).then_some(line)
+    });
+    let mut lines: Vec<String> = sample.take(K::DUMP_LINES).collect();
+    lines.extend(K::picked_for_dump().iter().filter_map(line::<K>).map(|(_, line)| line));
+    lines
 }

@@ -1,10 +1,11 @@
 //! Checks of the oracle itself: published vectors, one implementation against another, document 01's marked rows on
 //! the sliced text. Panics at the first that fails.
 
-use crate::document::settlement::{self, Data, Request};
+use crate::document::settlement::{self, Data, Fate, Request, Walked};
 use crate::document::{self, Document, Epoch};
+use crate::kinds::choice::Choice;
 use crate::kinds::settlement::consistent;
-use crate::kinds::{chain, TABLE};
+use crate::kinds::{chain, waits, TABLE};
 use crate::port::{self, Reply};
 use crate::random::Random;
 use crate::reference::calls::{self, Rust, Update};
@@ -42,6 +43,7 @@ pub fn run() {
     choice_example();
     order_of_rows();
     reached();
+    waits_of_the_walk();
     runs_of_updates();
     processes();
     println!("selftest: all passed, {} build", crate::build());
@@ -284,7 +286,7 @@ unsafe extern "C" fn choice_over_c(
     }
     let bytes = |from: *const u8, length: usize| from_raw_parts(from, length).to_vec();
     let amount = |low: u64, high: u64| u128::from(high) << 64 | u128::from(low);
-    let chosen = settlement::choice(&Request {
+    let request = Request {
         h,
         for_remote: for_remote == 1,
         args: bytes(args, args_len),
@@ -302,9 +304,12 @@ unsafe extern "C" fn choice_over_c(
         preimages: bytes(preimages, preimages_len),
         witness: (is_later == 1).then(|| bytes(witness, witness_len)),
         output: out_len,
-    });
-    let (number, fields, mut written) = match chosen {
-        Document::Row(row, place) => (row.number, vec![row.number, place], vec![]),
+    };
+    let (number, fields, mut written) = match settlement::choice(&request) {
+        Document::Row(row, place) => {
+            let (number, place) = wait_with_fault(fault, &request, row.number, place);
+            (number, vec![number, place], vec![])
+        }
         Document::Value(c) => {
             let byte = c.unlock[0];
             let kind = if byte >= 0xfe { 0 } else { 1 + c.unlock[1] };
@@ -352,6 +357,54 @@ unsafe extern "C" fn choice_over_c(
     number
 }
 
+/// A wait of the walk, right or with a fault.
+fn wait_with_fault(fault: &str, request: &Request, number: u64, place: u64) -> (u64, u64) {
+    if !(22..=25).contains(&number) {
+        return (number, place);
+    }
+    let walked = settlement::walk(request);
+    let is_later = request.witness.is_some();
+    let fell = walked.iter().position(|tlc| matches!(tlc.fate, Fate::Fell));
+    // Place, and the numbers of all causes.
+    let pending: Vec<(u64, Vec<u64>)> = walked.iter().enumerate().filter_map(causes).collect();
+    let causes = pending.first().map_or(&[][..], |(_, causes)| causes);
+    let at = |entry: Option<&(u64, Vec<u64>)>| entry.map_or((number, place), |(at, all)| (all[0], *at));
+    match fault {
+        "22 at 0 for every wait of the walk" => (22, 0),
+        "the last pending TLC" => at(pending.last()),
+        "the next pending TLC" => at(pending.get(1).or(pending.first())),
+        "the pending TLC with the lowest number" => at(pending.iter().min_by_key(|(_, all)| all[0])),
+        "a TLC whose pending fell" => (number, fell.map_or(place, |fell| fell as u64)),
+        "only pending TLCs are counted" => (number, 0),
+        "a TLC that is passed over is not named" => at(pending.iter().find(|(_, all)| all[0] != 23)),
+        "a place in the list before the update" if is_later => (number, place_before(request, place)),
+        "24 where 23 is due" if number == 23 => (24, place),
+        "25 where 23 is due" if number == 23 => (25, place),
+        "25 where the third isn't due" if number == 24 && causes.contains(&25) => (25, place),
+        "the last cause that fits" => (causes.last().copied().unwrap_or(number), place),
+        "25 for the timeout kind" if number == 24 && walked[place as usize].timeout_kind => (25, place),
+        "24 for every preimage that is missing" if number == 25 => (24, place),
+        "13 before a wait" if request.output < 67 + 73 + 57 => (13, 67 + 73 + 57),
+        _ => (number, place),
+    }
+}
+
+fn causes((place, tlc): (usize, &Walked)) -> Option<(u64, Vec<u64>)> {
+    match &tlc.fate {
+        Fate::Pending(causes) => Some((place as u64, causes.iter().map(|row| row.number).collect())),
+        Fate::Fell | Fate::Chosen(_) => None,
+    }
+}
+
+/// Where the standing TLC of this place is in the list before the update.
+fn place_before(request: &Request, place: u64) -> u64 {
+    let h = request.h as usize;
+    let witness = request.witness.as_ref().expect("a later settlement");
+    let record = &request.tracked[place as usize * (98 + h) + 33..][..65 + h];
+    let before = witness[2..].chunks(65 + h).position(|one| one == record);
+    before.expect("a standing TLC") as u64
+}
+
 /// What is looked at in a call of the choice.
 fn calls_of_choice() {
     const FAULTS: &[&str] = &[
@@ -375,11 +428,30 @@ fn calls_of_choice() {
         "a refusal that writes a third field",
         "two numbers",
         "another place",
+        "22 at 0 for every wait of the walk",
+        "the last pending TLC",
+        "the next pending TLC",
+        "the pending TLC with the lowest number",
+        "a TLC whose pending fell",
+        "only pending TLCs are counted",
+        "a TLC that is passed over is not named",
+        "a place in the list before the update",
+        "24 where 23 is due",
+        "25 where 23 is due",
+        "25 where the third isn't due",
+        "the last cause that fits",
+        "25 for the timeout kind",
+        "24 for every preimage that is missing",
+        "13 before a wait",
     ];
     let agrees = |case: u64| {
         let mut random = Random::of(1, "calls of the choice", case);
         let mut request = consistent(&mut random);
         request.output = 1000;
+        // Every second case is one of those made for waits.
+        if case % 2 == 1 {
+            request = waits::case(random.below(waits::CASES));
+        }
         match (port::choose(&mut random, choice_over_c, &request), settlement::choice(&request)) {
             (Ok(Reply::Value(port)), Document::Value(document)) => port == document,
             (Ok(Reply::Refused { number, place }), Document::Row(row, at)) => {
@@ -443,15 +515,100 @@ fn choice_example() {
     assert_eq!(chosen.delay, Some((3, 0, 1)));
     assert_eq!(chosen.state, calls::first_records(&case).expect("no TLCs"));
     case.current = (12, 1799, 1800);
-    assert_eq!(calls::choice(&case), calls::Choice::Wait(22));
+    assert_eq!(calls::choice(&case), calls::Choice::Wait(calls::Wait::Walk));
     println!("choice: a first settlement of our share");
+}
+
+fn expect(request: &Request, number: u64, place: u64) {
+    match settlement::choice(request) {
+        Document::Row(row, at) => assert_eq!((row.number, at), (number, place), "{}", row.cause),
+        Document::Value(_) => panic!("chosen, where {number} was expected"),
+    }
+}
+
+/// What a wait names, behind 20 and 21 and before 13: a case with every cause, of which the first is mended again and
+/// again. The state has one TLC, of zeros, and there is no room for an output.
+fn order_of_waits(mut request: Request, state: &[u8]) {
+    let with = |request: &mut Request, record: &[u8]| {
+        request.tracked = [&[0; 33], record].concat();
+        request.witness = Some([&[0], &state[..1], record, &state[86..]].concat());
+    };
+    let mut record = vec![0; 85];
+    record[77..].copy_from_slice(&(0x4000_0000_0000_0009u64).to_le_bytes());
+    with(&mut request, &record);
+    expect(&request, 23, 0);
+    // Its key: the settlement TLC of zeros.
+    record[57..77].copy_from_slice(&document::ckb_hash(&[0; 33])[..20]);
+    with(&mut request, &record);
+    request.data.tlcs = vec![0; 124];
+    expect(&request, 24, 0);
+    let timeout = record.clone();
+    record[0] = 1;
+    with(&mut request, &record);
+    expect(&request, 25, 0);
+    request.time = 9000;
+    expect(&request, 25, 0);
+    request.time = 9001;
+    expect(&request, 13, 67 + 158 + 57);
+    // Two of timeout kind behind it: one that is pending, one that is chosen or away.
+    let mut pending = timeout.clone();
+    pending[77] = 10;
+    let records = [&record[..], &pending, &timeout].concat();
+    request.tracked = records.chunks(85).flat_map(|one| [&[0; 33], one].concat()).collect();
+    request.witness = Some([&[0, 3], &records[..], &state[86..]].concat());
+    expect(&request, 13, 67 + 328 + 57);
+    request.time = 9000;
+    expect(&request, 25, 0);
+    let records = [record, pending].concat();
+    request.tracked = records.chunks(85).flat_map(|one| [&[0; 33], one].concat()).collect();
+    request.witness = Some([&[0, 2], &records[..], &state[86..]].concat());
+    request.time = 9001;
+    expect(&request, 24, 1);
+}
+
+/// The same in a first settlement of one TLC, and of none.
+fn order_of_first_waits(mut request: Request) {
+    request.args[20] = 3;
+    let mut tlc = vec![0; 124];
+    tlc[50] = 9;
+    let with = |request: &mut Request, tlc: &[u8]| {
+        request.data.tlcs = tlc.to_vec();
+        let Document::Value(state) = settlement::first(20, true, &request.data, 158) else {
+            panic!("one TLC");
+        };
+        request.tracked = [&[0; 33], &state[1..86]].concat();
+    };
+    let at = |request: &mut Request, number: u64| request.current = epoch(number, 0, 1);
+    request.output = 0;
+    request.time = 10;
+    with(&mut request, &tlc);
+    at(&mut request, 1);
+    expect(&request, 24, 0);
+    at(&mut request, 2);
+    expect(&request, 13, 67 + 158 + 57);
+    request.time = 9;
+    expect(&request, 24, 0);
+    tlc[0] = 1;
+    with(&mut request, &tlc);
+    for (number, expected) in [(0, 24), (1, 25), (2, 25), (3, 25)] {
+        at(&mut request, number);
+        expect(&request, expected, 0);
+    }
+    request.time = 10;
+    expect(&request, 13, 67 + 158 + 57);
+    at(&mut request, 2);
+    expect(&request, 25, 0);
+    (request.data.tlcs, request.tracked) = (vec![], vec![]);
+    expect(&request, 22, 0);
+    at(&mut request, 3);
+    expect(&request, 13, 67 + 73 + 57);
 }
 
 /// Document 01's order at the choice: a case with every fault, of which the first is mended again and again.
 fn order_of_rows() {
     let key = [2; 33];
     let hash = document::ckb_hash(&key)[..20].to_vec();
-    // Nothing qualifies: a TLC of zeros has no expiry. One more unlock is faulty, and the one behind it cut short.
+    // A TLC of zeros has neither an expiry nor a key. One more unlock is faulty, and the one behind it cut short.
     let state = [vec![1], vec![0; 85], vec![7; 36], hash.clone(), vec![0; 16]].concat();
     let [faulty, cut] = [[0x80; 67], [0; 67]].map(|unlock| unlock.to_vec());
     let [whole, other] = [vec![0; 33 + 85], vec![1; 33 + 85]];
@@ -474,10 +631,6 @@ fn order_of_rows() {
         witness: Some([&[0], &state[..], &faulty, &cut[1..]].concat()),
         output: 0,
     };
-    let expect = |request: &Request, number: u64, place: u64| match settlement::choice(request) {
-        Document::Row(row, at) => assert_eq!((row.number, at), (number, place), "{}", row.cause),
-        Document::Value(_) => panic!("chosen, where {number} was expected"),
-    };
     expect(&request, 14, 0);
     request.h = 20;
     expect(&request, 10, 0);
@@ -495,7 +648,8 @@ fn order_of_rows() {
     request.tracked = whole;
     expect(&request, 21, 0);
     request.data.local_key = key.to_vec();
-    expect(&request, 22, 0);
+    expect(&request, 23, 0);
+    order_of_waits(request.clone(), &state);
     request.tracked = vec![];
     request.witness = Some([&[0], &state[..], &cut].concat());
     expect(&request, 13, 67 + 73 + 57);
@@ -511,16 +665,20 @@ fn order_of_rows() {
     expect(&request, 12, 0);
     request.data.tlcs.truncate(254 * 124);
     expect(&request, 20, 0);
+    order_of_first_waits(request);
     println!("choice: document 01's order of rows");
 }
 
 /// The first cases of a kind reach every row that it has, and every kind of choice.
 fn reached() {
+    const CHOICE: &[&str] = &[
+        "1", "2", "3", "4", "5", "6", "7", "10", "11", "12", "13", "14", "20", "21", "22", "23", "24", "25",
+    ];
     let all: [(&str, &[&str]); 4] = [
         ("read", &["1", "2", "3", "4", "14", "n 253 to 255", "TLCs, unlocks"]),
         ("update", &["1", "2", "3", "4", "5", "6", "13", "14", "state as before", "more TLCs settled"]),
         ("first", &["12", "13", "14", "no TLCs", "one TLC", "more TLCs", "253 to 255 TLCs"]),
-        ("choice", &["1", "2", "3", "4", "5", "6", "7", "10", "11", "12", "13", "14", "20", "21", "22"]),
+        ("choice", CHOICE),
     ];
     let choices = ["share", "TLC by timeout", "TLC by preimage"];
     for (kind, rows) in all {
@@ -535,6 +693,17 @@ fn reached() {
         }
     }
     println!("read, update, first, choice: every row and every kind of choice is reached");
+}
+
+/// The first cases of the choice have every wait of the walk that can occur, by its causes and by what stands around it,
+/// and no other.
+fn waits_of_the_walk() {
+    let (met, possible) = (crate::run::waits::<Choice>(30_000).met, waits::possible());
+    let missing: Vec<&String> = possible.difference(&met).collect();
+    assert!(missing.is_empty(), "choice: no wait `{}`", missing[0]);
+    let unknown: Vec<&String> = met.difference(&possible).collect();
+    assert!(unknown.is_empty(), "choice: a wait that cannot be, `{}`", unknown[0]);
+    println!("choice: all {} combinations of a wait that can occur are met", possible.len());
 }
 
 /// Runs of updates reach every answer that an update has for a kept state, and notice faults.

@@ -35,7 +35,7 @@ macro_rules! silent {
 pub(crate) use silent as debug;
 pub(crate) use silent as error;
 
-/// As above. A warning that names one thing alone leaves a mark, by which wait 20 is told from 21 and 22: in
+/// As above. A warning that names one thing alone leaves a mark, by which wait 20 is told from all others: in
 /// `build_settlement_tx` those about the tracked list name the channel, and all others name more.
 macro_rules! marked {
     ($text:literal, $one:expr $(,)?) => {{

@@ -5,6 +5,7 @@ pub mod FirstRecordsLaws
 pub mod RequestLaws
 pub mod PreimagesLaws
 pub mod VerdictsLaws
+pub mod WaitsLaws
 pub mod WalkLaws
 pub mod SettlementsLaws
 pub mod ChoiceLaws

@@ -38,6 +38,7 @@ use Rattle.fiber_choice.specs.declared.kinds.Key.{Key}
 use Rattle.fiber_choice.specs.declared.kinds.Key.the-variants as key·
 use Rattle.fiber_choice.specs.declared.kinds.Delay.{Delay}
 use Rattle.fiber_choice.specs.declared.kinds.Delay.the-variants as delay·
+use Rattle.fiber_choice.specs.declared.kinds.Wait.{Wait}
 use Rattle.fiber_choice.specs.declared.kinds.Stage.{Stage}
 use Rattle.fiber_choice.specs.declared.kinds.Stage.the-variants as stage·
 use Rattle.fiber_choice.specs.declared.kinds.Ready.{Ready}
@@ -54,15 +55,17 @@ use Rattle.fiber_choice.specs.Walk.{ourShare, Verdict, passed, timeout, 
 use Rattle.fiber_choice.specs.Verdicts.{duesBy, verdicts, mayShare, walked}
 use Rattle.fiber_types.specs.Records.{Outcome}
 use Rattle.fiber_choice.specs.HandedOut.{choiceByte, unlockOf, takes, newArgs, choiceAmount, recordSize, handedOut}
-use Rattle.fiber_choice.specs.Settlements.{walkedBy, orWait, ifReady, laterReady, isLast, laterChoice, unsettled, laterPlace, laterState, laterOf, later, firstDelay, firstPlace, firstThirds, firstReady, first}
+use Rattle.fiber_choice.specs.Waits.{waitPlace}
+use Rattle.fiber_choice.specs.Settlements.{walkedBy, waitBy, orWait, ifReady, laterReady, isLast, laterChoice, unsettled, laterPlace, laterState, laterOf, later, firstDelay, firstPlace, firstThirds, firstReady, first}
 use Rattle.fiber_choice.specs.Choice.{afterDelay, choiceOf, recordPart, recordOf}
 use Rattle.fiber_choice.specs.inner.Plan.{Within, Below}
-use Rattle.fiber_choice.specs.Promises.{Decides, tlcsLeft, tlcsBefore, KeyIn, PairIn, Before, Onward, waits, stays, sooner, atTime, Promised, Promises, otherKey}
+use Rattle.fiber_choice.specs.Promises.{IsStage, is-later, is-first, lastLeft, named, Waiting, WaitPromises, FromWalk, Exactly, WaitsExactly, Decides, tlcsLeft, tlcsBefore, KeyIn, PairIn, Before, Onward, waits, stays, sooner, atTime, Promised, Promises, otherKey}
 use Rattle.fiber_choice.proofs.EntriesLaws.{tracked-length, lists-equal}
 use Rattle.fiber_choice.proofs.HandedLaws.{tracked-size, tlcs-length, tlc-at, each-tracked, after-small, unlock-least, new-lengths, unlock-whole, unlock-accepted}
 use Rattle.fiber_choice.proofs.FirstRecordsLaws.{share-by-length}
-use Rattle.fiber_choice.proofs.WalkLaws.{StepWithin}
-use Rattle.fiber_choice.proofs.SettlementsLaws.{later-ready, choice-within, first-ready, first-built, first-within, standing-at, choice-share}
+use Rattle.fiber_choice.proofs.WaitsLaws.{Unchosen, pending-numbers}
+use Rattle.fiber_choice.proofs.WalkLaws.{StepWithin, waits-without, waits-stands, waits-cause, waits-pends, waits-fell}
+use Rattle.fiber_choice.proofs.SettlementsLaws.{only-unchosen, Early, later-ready-early, first-ready-early, choice-walk, later-ready, choice-within, first-ready, first-built, first-within, standing-at, choice-share}
 
 -- ---- a later time, one step
 
@@ -175,8 +178,12 @@ record Begun (q : Request) (isLater : Bool) (w : List ℕ) : Type 0 where
   last : Bool
   delay : Choice → Delay
   place : Choice → ℕ
+  stage : Stage
+  stage-is : IsStage q isLater stage
   step : ℕ → Step
-  comes : (time : ℕ) (out : List ℕ) → choiceOf (atTime q time) isLater w out ≡ orWait (atTime q time) remote local last delay place out (step time)
+  comes : (time : ℕ) (out : List ℕ) → choiceOf (atTime q time) isLater w out ≡ orWait (atTime q time) remote local last delay place (waitBy (atTime q time) stage) out (step time)
+  walks : last ≡ false → (time : ℕ) → step time ≡ walkedBy (atTime q time) stage
+  names : step (q .time) ≡ named q isLater w stage
   within : (time : ℕ) → StepWithin (length (trackedTlcs q)) (length (settlementTlcs q)) (length (pairs q)) (step time)
   moves : (time time′ : ℕ) → time ≤ time′ → Onward (step time) (step time′)
   lasts : last ≡ (isLater && isLast (cond (q .forRemote) remote local))
@@ -258,15 +265,19 @@ module _ (q : Request) (w : List ℕ) (n sharePlace : ℕ) (t : Taken) where
     shares-there = rw u at (unlocked-shares (q .h) w)
 
     later-begun : Begun q true w
-    unfolding choiceOf afterDelay later laterOf laterState laterReady ifReady
+    unfolding choiceOf afterDelay later laterOf laterState laterReady ifReady laterChoice named lastLeft
     later-begun = record {
       remote = remoteLeft;
       local = localLeft;
       last = isLast other;
       delay = λ c. delay·.None;
       place = laterPlace (q .h) (unsettled (t .settled) 0 n);
+      stage = stage·.Later;
+      stage-is = is-later;
       step = λ time. laterChoice (atTime q time) (isLast other);
       comes = λ time out. rw (valid-at q time v, f, u, r);
+      walks = λ e time. sym (choice-walk (atTime q time) (isLast other) e);
+      names = rw u;
       within = λ time. choice-within (atTime q time) (isLast other);
       moves = later-moves;
       lasts = refl;
@@ -302,7 +313,7 @@ module _ (q : Request) (w : List ℕ) (v : validRequest q ≡ true) (full : Epoc
       (sym (tlc-at (q .h) (q .tracked) i (omega (arith, tlcs-length (q .h) (q .tracked), ap length built-tracked)))))
 
   first-begun : Begun q false w
-  unfolding choiceOf afterDelay first firstThirds firstReady ifReady firstRemote firstLocal firstState
+  unfolding choiceOf afterDelay first firstThirds firstReady ifReady firstRemote firstLocal firstState named
   first-begun =
       let d = q .settlement in
       record {
@@ -311,8 +322,12 @@ module _ (q : Request) (w : List ℕ) (v : validRequest q ≡ true) (full : Epoc
         last = false;
         delay = λ c. delay·.Epoch (firstDelay third two full c);
         place = firstPlace (q .h);
+        stage = stage;
+        stage-is = is-first f x y;
         step = λ time. walkedBy (atTime q time) stage;
         comes = λ time out. rw (valid-at q time v, f, r, x, y);
+        walks = λ e time. refl;
+        names = refl;
         within = λ time. first-within (atTime q time) (duesBy (q .header) third two full (q .current)) (first-ready q full r .many);
         moves = λ time time′. later-time-walk (q .h) (q .forRemote) time time′ (settlementTlcs q) (pairs q) stage (trackedTlcs q);
         lasts = refl;
@@ -326,20 +341,11 @@ module _ (q : Request) (w : List ℕ) (v : validRequest q ≡ true) (full : Epoc
         recorded = first-record;
       }
 
--- ---- where something is decided, it may
+-- ---- where the walk is answered, it may
 
--- a wait or a refusal
-abbrev Undecided : ChoiceAnswer → Type 0
-Undecided (answer·.Chosen d) = ⊥
-Undecided (answer·.Wait number place) = Unit {0}
-Undecided (answer·.Refused number place) = Unit {0}
-
-never : {A : Type 0} (d : Decision) (a : ChoiceAnswer) → Undecided a → a ≡ answer·.Chosen d → A
-never d a f e = absurd (subst Undecided e f)
-
-module _ (q : Request) (w out : List ℕ) (d : Decision) where
+module _ (q : Request) (w out : List ℕ) where
   abbrev Begins : Bool → Outcome ChoiceAnswer → Type 0
-  Begins isLater o = o .answer ≡ answer·.Chosen d → Begun q isLater w
+  Begins isLater o = FromWalk (o .answer) → Begun q isLater w
 
   module _ (v : validRequest q ≡ true) (full : Epoch) (f : delayOf (q .args) ≡ scaled·.Epoch full) where
     later-begins : Begins true (later q w out)
@@ -349,12 +355,12 @@ module _ (q : Request) (w out : List ℕ) (d : Decision) where
         ready-by : (n sharePlace : ℕ) (t : Taken) (u : unlocked (q .h) w ≡ fine n sharePlace t) (r : Ready) (o : Outcome ChoiceAnswer)
             → laterReady q (stand q w n sharePlace t) (ours q w n sharePlace t) ≡ r → Begins true (ifReady r out o)
         ready-by n sharePlace t u ready·.Yes o r e = later-begun q w n sharePlace t v full f u r
-        ready-by n sharePlace t u (ready·.Wait number) o r e = never d _ tt e
-        ready-by n sharePlace t u (ready·.Refused number) o r e = never d _ tt e
+        ready-by n sharePlace t u (ready·.Wait wait) o r e = absurd (omega (arith, e, subst Early r (later-ready-early q (stand q w n sharePlace t) (ours q w n sharePlace t))))
+        ready-by n sharePlace t u (ready·.Refused number) o r e = absurd e
 
         go : (x : Unlocked) → unlocked (q .h) w ≡ x → Begins true (laterOf q w out x)
         go (fine n sharePlace t) u = ready-by n sharePlace t u _ _ refl
-        go (faulty number place) u = λ e. never d _ tt e
+        go (faulty number place) u = λ e. absurd e
 
     first-begins : Begins false (first q full out)
     unfolding first firstThirds ifReady
@@ -362,23 +368,23 @@ module _ (q : Request) (w out : List ℕ) (d : Decision) where
       where
         thirds : firstReady q full ≡ ready·.Yes → (x y : Scaled) → scaled full 1 3 ≡ x → scaled full 2 3 ≡ y → Begins false (firstThirds q out full x y)
         thirds r (scaled·.Epoch third) (scaled·.Epoch two) x y e = first-begun q w v full f third two x y r
-        thirds r (scaled·.Epoch third) (scaled·.Refused n p) x y e = never d _ tt e
-        thirds r (scaled·.Refused n p) (scaled·.Epoch two) x y e = never d _ tt e
-        thirds r (scaled·.Refused n p) (scaled·.Refused m k) x y e = never d _ tt e
+        thirds r (scaled·.Epoch third) (scaled·.Refused n p) x y e = absurd e
+        thirds r (scaled·.Refused n p) (scaled·.Epoch two) x y e = absurd e
+        thirds r (scaled·.Refused n p) (scaled·.Refused m k) x y e = absurd e
 
         go : (r : Ready) → firstReady q full ≡ r → Begins false (ifReady r out (firstThirds q out full (scaled full 1 3) (scaled full 2 3)))
         go ready·.Yes r = thirds r (scaled full 1 3) (scaled full 2 3) refl refl
-        go (ready·.Wait number) r = λ e. never d _ tt e
-        go (ready·.Refused number) r = λ e. never d _ tt e
+        go (ready·.Wait wait) r = λ e. absurd (omega (arith, e, subst Early r (first-ready-early q full)))
+        go (ready·.Refused number) r = λ e. absurd e
 
   choice-begins : (isLater : Bool) → Begins isLater (choiceOf q isLater w out)
   unfolding choiceOf afterDelay
-  choice-begins isLater = by-test (Begins isLater) (validRequest q) _ _ (λ v. go v (delayOf (q .args)) isLater refl) (λ _ e. never d _ tt e)
+  choice-begins isLater = by-test (Begins isLater) (validRequest q) _ _ (λ v. go v (delayOf (q .args)) isLater refl) (λ _ e. absurd e)
     where
       go : validRequest q ≡ true → (s : Scaled) (isLater : Bool) → delayOf (q .args) ≡ s → Begins isLater (afterDelay q isLater w out s)
       go v (scaled·.Epoch full) true f = later-begins v full f
       go v (scaled·.Epoch full) false f = first-begins v full f
-      go v (scaled·.Refused number place) isLater f = λ e. never d _ tt e
+      go v (scaled·.Refused number place) isLater f = λ e. absurd e
 
 -- ---- what is handed out
 
@@ -414,6 +420,12 @@ other-key forRemote rs remote local e f shares g = go forRemote
         ∙ part-part state shares 36 0 20 (omega arith)
     go false = ap (take 20) (sym (drop-at remote local 36 e) ∙ ap (drop 36) (sym behind) ∙ drop-drop 36 shares state)
 
+-- a wait or a refusal
+abbrev Undecided : ChoiceAnswer → Type 0
+Undecided (answer·.Chosen d) = ⊥
+Undecided (answer·.Wait wait) = Unit {0}
+Undecided (answer·.Refused number place) = Unit {0}
+
 -- a step chooses one thing
 chosen-one : {x y : Choice} {a b : Key} → step·.Chosen x a ≡ step·.Chosen y b → x ≡ y
 chosen-one e = cc
@@ -444,11 +456,11 @@ module _ (q : Request) (isLater : Bool) (w : List ℕ) (c : Begun q isLater w) w
 
   module _ (out : List ℕ) where
     abbrev outcomeOf : Step → Outcome ChoiceAnswer
-    outcomeOf s = orWait q (c .remote) (c .local) (c .last) (c .delay) (c .place) out s
+    outcomeOf s = orWait q (c .remote) (c .local) (c .last) (c .delay) (c .place) (waitBy q (c .stage)) out s
 
     step-handed : (d : Decision) (s : Step) → c .step (q .time) ≡ s → outcomeOf s .answer ≡ answer·.Chosen d → Handed out d (outcomeOf s .bytes)
     unfolding orWait handedOut
-    step-handed d (step·.Pending pending) f = λ e. never d _ tt e
+    step-handed d (step·.Pending pending) f = λ e. absurd (subst Undecided e tt)
     step-handed d (step·.Chosen choice key) f =
         by-test (λ (o : Outcome ChoiceAnswer). o .answer ≡ answer·.Chosen d → Handed out d (o .bytes)) (leb (length (joined choice)) (length out)) _ _
         (λ g e.
@@ -456,7 +468,7 @@ module _ (q : Request) (isLater : Bool) (w : List ℕ) (c : Begun q isLater w) w
         let p = parts-of (unlockOf (pairs q) choice) before (newArgs (q .args) (after choice)) (drop (0 + length (joined choice)) out) (sets out 0 (joined choice)) (sets-eq (joined choice) out 0 r) in
         subst (λ (x : Decision). Handed out x (sets out 0 (joined choice))) (inside _ d e)
         (record { chosen = f; amount = refl; begins = refl; ends = refl; len = refl; room = omega arith; unlock = p .0; state = p .1 .0; new = p .1 .1; size = refl }))
-        (λ _ e. never d _ tt e)
+        (λ _ e. absurd (subst Undecided e tt))
       where
         -- the answer holds one thing
         inside : (x y : Decision) → answer·.Chosen x ≡ answer·.Chosen y → x ≡ y
@@ -489,6 +501,9 @@ module _ (q : Request) (isLater : Bool) (w : List ℕ) (c : Begun q isLater w) w
     last-state shares e =
         let f : shares + 72 ≡ length before = e ∙ t .size in
         t .ends ∙ c .lasts ∙ ap (λ (k : List ℕ). isLater && same k (replicate 20 0)) (rw (t .state) (other-key (q .forRemote) (trackedRecords (trackedTlcs q)) (c .remote) (c .local) (c .remotes) (c .locals) shares f))
+
+    walk-named : d .last ≡ false → (stage : Stage) × (IsStage q isLater stage × (walkedBy q stage ≡ step·.Chosen (d .choice) (d .key)))
+    walk-named e = (c .stage, (c .stage-is, sym (c .walks (sym (t .ends) ∙ e) (q .time)) ∙ t .chosen))
 
     last-share : d .last ≡ true → d .choice ≡ choice·.Share (ourSide (q .forRemote))
     last-share e = chosen-one (sym (t .chosen) ∙ c .shares (sym (t .ends) ∙ e) (q .time))
@@ -591,6 +606,7 @@ module _ (q : Request) (isLater : Bool) (w : List ℕ) (c : Begun q isLater w) w
             );
         last-is = λ shares e. last-state q isLater w c out d bytes t shares e;
         last-ours = last-share q isLater w c out d bytes t;
+        walk-names = walk-named q isLater w c out d bytes t;
         in-their-lists = chosen-in q isLater w c out d bytes t;
         left = after q isLater w c (d .choice);
         room = omega (arith, t .size, after-small tlcs (c .remote) (c .local) (d .choice) (c .remotes) (c .locals));
@@ -607,13 +623,104 @@ module _ (q : Request) (isLater : Bool) (w : List ℕ) (c : Begun q isLater w) w
 decided : (q : Request) (isLater : Bool) (w out : List ℕ) (d : Decision) → Decides q isLater w out d
     → (c : Begun q isLater w) × Handed q isLater w c out d (choiceOf q isLater w out .bytes)
 decided q isLater w out d e =
-    let c = choice-begins q w out d isLater e in
+    let c = choice-begins q w out isLater (subst FromWalk (sym e) tt) in
     (c, handed q isLater w c out d e)
 
 pub promises : Promises
 promises q isLater w out d e =
     let t = decided q isLater w out d e in
     begun-promised q isLater w (t .0) out d _ (t .1)
+
+-- ---- all promises of a wait
+
+-- a step without a choice leaves some number pending
+unchosen-left : (s : Step) → Unchosen s → (left : ℕ) × (s ≡ step·.Pending left)
+unchosen-left (step·.Pending left) u = (left, refl)
+unchosen-left (step·.Chosen choice key) u = absurd u
+
+-- our share may be taken in every later settlement
+stage-first : (q : Request) (isLater : Bool) (stage : Stage) → IsStage q isLater stage → mayShare stage ≡ false → isLater ≡ false
+unfolding mayShare
+stage-first q isLater stage is-later e = absurd (false≢true (sym e))
+stage-first q isLater stage (is-first a b c) e = refl
+
+module _ (q : Request) (isLater : Bool) (w : List ℕ) (c : Begun q isLater w) (out : List ℕ) (wait : Wait) (e : choiceOf q isLater w out .answer ≡ answer·.Wait wait) where
+  abbrev tracked : List (List ℕ)
+  tracked = trackedTlcs q
+
+  -- the step chooses nothing, and the wait is that of the walk
+  waits-by : (Unchosen (c .step (q .time))) × (wait ≡ waitBy q (c .stage))
+  waits-by =
+      only-unchosen q (c .remote) (c .local) (c .last) (c .delay) (c .place) (waitBy q (c .stage)) out (c .step (q .time)) wait
+      (rw (c .comes (q .time) out) at e)
+
+  -- it is not the last settlement, in which our share is chosen
+  not-last : c .last ≡ false
+  not-last = go (c .last) refl
+    where
+      go : (b : Bool) → c .last ≡ b → b ≡ false
+      go false f = refl
+      go true f = absurd (subst Unchosen (c .shares f (q .time)) (waits-by .0))
+
+  nothing : (left : ℕ) × (c .step (q .time) ≡ step·.Pending left)
+  nothing = unchosen-left (c .step (q .time)) (waits-by .0)
+
+  walks-nothing : walkedBy q (c .stage) ≡ step·.Pending (nothing .0)
+  walks-nothing = sym (c .walks not-last (q .time)) ∙ nothing .1
+
+  standing-many : length (tlcsBefore q isLater w) ≡ length tracked
+  standing-many = ap length (c .tlcs) ∙ tracked-length tracked
+
+  wait-promised : Waiting q isLater w wait
+  unfolding orWait trackedRecords waitPlace
+  wait-promised = record {
+    stage = c .stage;
+    stage-is = c .stage-is;
+    pending = nothing .0;
+    names-nothing = walks-nothing;
+    any-output = λ into. rw (c .comes (q .time) into, nothing .1, waits-by .1) refl;
+    without-tlcs =
+        λ f.
+        let z = waits-without (q .h) (q .forRemote) (q .time) (settlementTlcs q) (pairs q) (c .stage) tracked (nothing .0) walks-nothing (sym (waits-by .1) ∙ f) in
+        (stage-first q isLater (c .stage) (c .stage-is) (z .1), (c .tlcs ∙ ap trackedRecords (z .0), z .1));
+    standing-tracked = c .tlcs;
+    named-cause =
+        λ place cause f. (
+          rw f,
+          waits-cause (q .h) (q .forRemote) (q .time) (settlementTlcs q) (pairs q) (c .stage) tracked (nothing .0) walks-nothing place cause (sym (waits-by .1) ∙ f),
+        );
+    named-stands =
+        λ place cause f. rw standing-many
+        (waits-stands (q .h) (q .forRemote) (q .time) (settlementTlcs q) (pairs q) (c .stage) tracked (nothing .0) walks-nothing place cause (sym (waits-by .1) ∙ f));
+    named-pends =
+        λ place cause f. waits-pends (q .h) (q .forRemote) (q .time) (settlementTlcs q) (pairs q) (c .stage) tracked (nothing .0) walks-nothing place cause (sym (waits-by .1) ∙ f);
+    fell-before =
+        λ place cause f i g. waits-fell (q .h) (q .forRemote) (q .time) (settlementTlcs q) (pairs q) (c .stage) tracked (nothing .0) walks-nothing place cause (sym (waits-by .1) ∙ f)
+        i (omega (arith, g));
+  }
+
+pub wait-promises : WaitPromises
+wait-promises q isLater w out wait e = wait-promised q isLater w (choice-begins q w out isLater (rw (e .0) (e .1))) out wait (e .0)
+
+-- ---- one of 22 to 25 exactly where nothing is named
+
+begun-exactly : (q : Request) (isLater : Bool) (w : List ℕ) (c : Begun q isLater w) → Exactly q isLater w (c .stage)
+unfolding orWait
+begun-exactly q isLater w c = record {
+  waits = λ pending e out. rw (c .comes (q .time) out, c .names, e) refl;
+  numbers =
+      let n = pending-numbers (q .time) 0 (verdicts (q .h) (q .forRemote) (settlementTlcs q) (pairs q) (c .stage) 0 (trackedTlcs q)) in
+      (omega (arith, n .0), omega (arith, n .1));
+  waits-not =
+      λ choice key e out wait f.
+      subst Unchosen (c .names ∙ e)
+      (only-unchosen q (c .remote) (c .local) (c .last) (c .delay) (c .place) (waitBy q (c .stage)) out (c .step (q .time)) wait (rw (c .comes (q .time) out) at f) .0);
+}
+
+pub waits-exactly : WaitsExactly
+waits-exactly q isLater w out e =
+    let c = choice-begins q w out isLater e in
+    (c .stage, (c .stage-is, begun-exactly q isLater w c))
 
 -- ---- what is handed out, for whoever counts what it pays
 

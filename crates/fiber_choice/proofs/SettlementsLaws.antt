@@ -35,10 +35,15 @@ use Rattle.fiber_choice.specs.declared.kinds.Way.{Way}
 use Rattle.fiber_choice.specs.declared.kinds.Choice.{Choice}
 use Rattle.fiber_choice.specs.declared.kinds.Choice.the-variants as choice·
 use Rattle.fiber_choice.specs.declared.kinds.Key.{Key}
+use Rattle.fiber_choice.specs.declared.kinds.Key.the-variants as key·
 use Rattle.fiber_choice.specs.declared.kinds.Delay.{Delay}
 use Rattle.fiber_choice.specs.declared.kinds.Delay.the-variants as delay·
 use Rattle.fiber_choice.specs.declared.kinds.Dues.{Dues}
 use Rattle.fiber_choice.specs.declared.kinds.Stage.the-variants as stage·
+use Rattle.fiber_choice.specs.declared.kinds.Wait.{Wait}
+use Rattle.fiber_choice.specs.declared.kinds.Wait.the-variants as wait·
+use Rattle.fiber_choice.specs.declared.kinds.Pick.{Pick}
+use Rattle.fiber_choice.specs.declared.kinds.Pick.the-variants as pick·
 use Rattle.fiber_choice.specs.declared.kinds.Ready.{Ready}
 use Rattle.fiber_choice.specs.declared.kinds.Ready.the-variants as ready·
 use Rattle.fiber_choice.specs.declared.kinds.Step.{Step}
@@ -48,15 +53,18 @@ use Rattle.fiber_choice.specs.declared.kinds.ChoiceAnswer.the-variants a
 use Rattle.fiber_choice.specs.Entries.{same, sameLists, entries, settlementLen, trackedLen, trackedRecords}
 use Rattle.fiber_choice.specs.Request.{SettlementData, Request, settlementTlcs, trackedTlcs, pairs}
 use Rattle.fiber_choice.specs.FirstRecords.{hashOf, shareBytes, firstRecords, firstRemote, firstLocal}
-use Rattle.fiber_choice.specs.Walk.{ourShare}
+use Rattle.fiber_choice.specs.Walk.{ourSide, ourShare}
 use Rattle.fiber_choice.specs.Verdicts.{duesBy}
+use Rattle.fiber_choice.specs.Waits.{waitNumber}
 use Rattle.fiber_types.specs.Records.{Outcome, Gives}
 use Rattle.fiber_choice.specs.HandedOut.{handedOut}
-use Rattle.fiber_choice.specs.Settlements.{walkedBy, orWait, ifReady, laterReady, isLast, laterChoice, unsettled, laterPlace, laterState, laterOf, later, firstDelay, firstPlace, firstThirds, lengthsZero, firstReady, first}
+use Rattle.fiber_choice.specs.Settlements.{walkedBy, waitBy, orWait, ifReady, laterReady, isLast, laterChoice, unsettled, laterPlace, laterState, laterOf, later, firstDelay, firstPlace, firstThirds, lengthsZero, firstReady, first}
 use Rattle.fiber_choice.specs.inner.Plan.{Reaches, Within, Below}
+use Rattle.fiber_choice.specs.inner.Noting.{pickOf}
 use Rattle.fiber_choice.proofs.EntriesLaws.{lists-short, lists-length, record-at, tracked-length, entries-length, entry-room, entries-cons, lists-equal}
 use Rattle.fiber_choice.proofs.FirstRecordsLaws.{firsts-count}
 use Rattle.fiber_choice.proofs.WalkLaws.{StepWithin, walked-within, reaches-later, reaches-first}
+use Rattle.fiber_choice.proofs.WaitsLaws.{Unchosen}
 
 -- ---- what a settlement comes to
 
@@ -66,9 +74,9 @@ leaves-as x y e r o w = rw (← e) w
 
 module _ (r : Ready) (out : List ℕ) (o : Outcome ChoiceAnswer) where
   -- a wait before the walk
-  pub ready-wait : (number : ℕ) → r ≡ ready·.Wait number → Gives (ifReady r out o) (answer·.Wait number 0) out
+  pub ready-wait : (wait : Wait) → r ≡ ready·.Wait wait → Gives (ifReady r out o) (answer·.Wait wait) out
   unfolding ifReady
-  ready-wait number e = (rw e, rw e)
+  ready-wait wait e = (rw e, rw e)
 
   -- a refusal
   pub ready-refused : (number : ℕ) → r ≡ ready·.Refused number → Gives (ifReady r out o) (answer·.Refused number 0) out
@@ -80,17 +88,53 @@ module _ (r : Ready) (out : List ℕ) (o : Outcome ChoiceAnswer) where
   unfolding ifReady
   ready-yes e = rw e
 
-module _ (q : Request) (remote local : List ℕ) (last : Bool) (delay : Choice → Delay) (place : Choice → ℕ) (out : List ℕ) (s : Step) where
-  -- row 22
-  pub nothing-chosen : (pending : ℕ) → s ≡ step·.Pending pending → Gives (orWait q remote local last delay place out s) (answer·.Wait 22 0) out
+module _ (q : Request) (remote local : List ℕ) (last : Bool) (delay : Choice → Delay) (place : Choice → ℕ) (wait : Wait) (out : List ℕ) (s : Step) where
+  -- The wait is answered where nothing is chosen, and only there: what is chosen does not depend on which of the rows 22 to 25 it is.
+  pub nothing-chosen : (pending : ℕ) → s ≡ step·.Pending pending → Gives (orWait q remote local last delay place wait out s) (answer·.Wait wait) out
   unfolding orWait
   nothing-chosen pending e = (rw e, rw e)
 
+  pub only-unchosen : (w : Wait) → orWait q remote local last delay place wait out s .answer ≡ answer·.Wait w → (Unchosen s) × (w ≡ wait)
+  unfolding orWait handedOut
+  only-unchosen w = go s
+    where
+      No-wait : ChoiceAnswer → Type 0
+      No-wait (answer·.Wait x) = ⊥
+      No-wait (answer·.Chosen d) = Unit {0}
+      No-wait (answer·.Refused number place) = Unit {0}
+
+      go : (s : Step) → orWait q remote local last delay place wait out s .answer ≡ answer·.Wait w → (Unchosen s) × (w ≡ wait)
+      go (step·.Pending pending) = λ e. (tt, cc)
+      go (step·.Chosen choice key) =
+          by-each (λ (o : Outcome ChoiceAnswer). o .answer ≡ answer·.Wait w → ⊥ × (w ≡ wait)) (leb _ (length out)) _ _ (λ e. absurd (subst No-wait e tt)) (λ e. absurd (subst No-wait e tt))
+
   -- what is chosen
   pub one-chosen : (choice : Choice) (key : Key) → s ≡ step·.Chosen choice key
-      → handedOut (q .h) (q .args) (trackedTlcs q) (pairs q) remote local last choice key (delay choice) (place choice) out ≡ orWait q remote local last delay place out s
+      → handedOut (q .h) (q .args) (trackedTlcs q) (pairs q) remote local last choice key (delay choice) (place choice) out ≡ orWait q remote local last delay place wait out s
   unfolding orWait
   one-chosen choice key e = rw e
+
+abbrev Chooses : Pick → Type 0
+Chooses (pick·.Chosen choice key) = Unit {0}
+Chooses (pick·.Wait wait) = ⊥
+
+-- a choice or a wait, as the code passes it on
+module _ (s : Step) (w : Wait) where
+  pub pick-wait : (x : Wait) → pickOf s w ≡ pick·.Wait x → (pending : ℕ) × ((s ≡ step·.Pending pending) × (w ≡ x))
+  unfolding pickOf
+  pick-wait x = go s
+    where
+      go : (s : Step) → pickOf s w ≡ pick·.Wait x → (pending : ℕ) × ((s ≡ step·.Pending pending) × (w ≡ x))
+      go (step·.Pending pending) e = (pending, (refl, cc))
+      go (step·.Chosen choice key) e = absurd (subst Chooses e tt)
+
+  pub pick-chosen : (choice : Choice) (key : Key) → pickOf s w ≡ pick·.Chosen choice key → s ≡ step·.Chosen choice key
+  unfolding pickOf
+  pick-chosen choice key = go s
+    where
+      go : (s : Step) → pickOf s w ≡ pick·.Chosen choice key → s ≡ step·.Chosen choice key
+      go (step·.Pending pending) e = absurd (subst Chooses (sym e) tt)
+      go (step·.Chosen x y) e = cc
 
 -- ---- the records that stand, and the tracked ones
 
@@ -322,13 +366,13 @@ module _ (q : Request) (tlcs : List (List ℕ)) (ours : List ℕ) (k : ℕ) (c :
 
   module _ (f : k ≤ 254) where
     -- row 20
-    pub later-other : sameLists tlcs (trackedRecords (trackedTlcs q)) ≡ false → ready·.Wait 20 ≡ laterReady q tlcs ours
+    pub later-other : sameLists tlcs (trackedRecords (trackedTlcs q)) ≡ false → ready·.Wait wait·.ListDiffers ≡ laterReady q tlcs ours
     unfolding laterReady
     later-other g = rw (← c, le-leb k 254 f, g)
 
     module _ (g : sameLists tlcs (trackedRecords (trackedTlcs q)) ≡ true) where
       -- row 21
-      pub later-key : same (take 20 ours) (hashOf (q .settlement .localKey)) ≡ false → ready·.Wait 21 ≡ laterReady q tlcs ours
+      pub later-key : same (take 20 ours) (hashOf (q .settlement .localKey)) ≡ false → ready·.Wait wait·.NotOurShare ≡ laterReady q tlcs ours
       unfolding laterReady
       later-key d = rw (← c, le-leb k 254 f, g, d)
 
@@ -343,6 +387,26 @@ No ready·.Yes = ⊥
 No (ready·.Wait number) = Unit {0}
 No (ready·.Refused number) = Unit {0}
 
+-- a wait before the walk is one by row 20 or 21
+abbrev pub Early : Ready → Type 0
+Early ready·.Yes = Unit {0}
+Early (ready·.Wait wait) = waitNumber wait < 22
+Early (ready·.Refused number) = Unit {0}
+
+pub later-ready-early : (q : Request) (tlcs : List (List ℕ)) (ours : List ℕ) → Early (laterReady q tlcs ours)
+unfolding laterReady waitNumber
+later-ready-early q tlcs ours =
+    by-each Early (leb (length tlcs) 254) _ _
+    (by-each Early (sameLists tlcs (trackedRecords (trackedTlcs q))) _ _ (by-each Early (same (take 20 ours) (hashOf (q .settlement .localKey))) _ _ tt (omega arith)) (omega arith))
+    tt
+
+pub first-ready-early : (q : Request) (full : Epoch) → Early (firstReady q full)
+unfolding firstReady waitNumber
+first-ready-early q full =
+    by-each Early (lengthsZero (q .header) (q .current) full) _ _ tt
+    (by-each Early (leb (length (settlementTlcs q)) 254) _ _
+    (by-each Early (sameLists (firstRecords (q .h) (q .forRemote) (settlementTlcs q)) (trackedRecords (trackedTlcs q))) _ _ tt (omega arith)) tt)
+
 -- where the walk may begin, few stand, and they are the tracked ones
 pub later-ready : (q : Request) (tlcs : List (List ℕ)) (ours : List ℕ) → laterReady q tlcs ours ≡ ready·.Yes
     → (length tlcs ≤ 254) × (sameLists tlcs (trackedRecords (trackedTlcs q)) ≡ true)
@@ -350,7 +414,7 @@ unfolding laterReady
 later-ready q tlcs ours = go (leb (length tlcs) 254) (sameLists tlcs (trackedRecords (trackedTlcs q))) (same (take 20 ours) (hashOf (q .settlement .localKey))) refl
   where
     go : (x y z : Bool) → leb (length tlcs) 254 ≡ x
-        → cond x (cond y (cond z ready·.Yes (ready·.Wait 21)) (ready·.Wait 20)) (ready·.Refused 12) ≡ ready·.Yes
+        → cond x (cond y (cond z ready·.Yes (ready·.Wait wait·.NotOurShare)) (ready·.Wait wait·.ListDiffers)) (ready·.Refused 12) ≡ ready·.Yes
         → (length tlcs ≤ 254) × (y ≡ true)
     go true true z p e = (leb-true (length tlcs) 254 p, refl)
     go true false z p e = absurd (subst No e tt)
@@ -372,6 +436,14 @@ module _ (q : Request) (last : Bool) where
   unfolding laterChoice
   choice-walk g = rw g
 
+  -- as the code passes them on
+  pub choice-picks-share : (side : Side) (w : Wait) → side ≡ ourSide (q .forRemote) → last ≡ true → pick·.Chosen (choice·.Share side) key·.Settlement ≡ pickOf (laterChoice q last) w
+  unfolding pickOf
+  choice-picks-share side w e g = rw (← choice-share g, e)
+
+  pub choice-picks-walk : (w : Wait) → last ≡ false → pickOf (walkedBy q stage·.Later) w ≡ pickOf (laterChoice q last) w
+  choice-picks-walk w g = ap (λ (s : Step). pickOf s w) (choice-walk g)
+
 -- what is chosen is among the tracked TLCs
 pub choice-within : (q : Request) (last : Bool) → StepWithin (length (trackedTlcs q)) (length (settlementTlcs q)) (length (pairs q)) (laterChoice q last)
 unfolding laterChoice Within Below
@@ -387,7 +459,7 @@ by-flag b x y z (inr p) = rw (p .0) (p .1)
 -- of a state that the witness's unlocks leave, with what the code finds of it
 module _ (q : Request) (out : List ℕ) (tlcs : List (List ℕ)) (firsts remote local ours other : List ℕ)
     (p : ours ≡ cond (q .forRemote) local remote) (o : other ≡ cond (q .forRemote) remote local) (last : Bool) (l : last ≡ isLast other) (r : Ready) (e : r ≡ laterReady q tlcs ours) where
-  state-as : ifReady r out (orWait q remote local last (λ c. delay·.None) (laterPlace (q .h) firsts) out (laterChoice q last)) ≡ laterState q out tlcs firsts remote local
+  state-as : ifReady r out (orWait q remote local last (λ c. delay·.None) (laterPlace (q .h) firsts) (waitBy q stage·.Later) out (laterChoice q last)) ≡ laterState q out tlcs firsts remote local
   unfolding laterState
   state-as = rw (e, p, l, o)
 
@@ -395,8 +467,8 @@ module _ (q : Request) (out : List ℕ) (tlcs : List (List ℕ)) (firsts remote 
   pub state-refused : (number : ℕ) → r ≡ ready·.Refused number → Gives (laterState q out tlcs firsts remote local) (answer·.Refused number 0) out
   state-refused number f = leaves-as _ _ state-as _ _ (ready-refused r out _ number f)
 
-  pub state-wait : (number : ℕ) → r ≡ ready·.Wait number → Gives (laterState q out tlcs firsts remote local) (answer·.Wait number 0) out
-  state-wait number f = leaves-as _ _ state-as _ _ (ready-wait r out _ number f)
+  pub state-wait : (wait : Wait) → r ≡ ready·.Wait wait → Gives (laterState q out tlcs firsts remote local) (answer·.Wait wait) out
+  state-wait wait f = leaves-as _ _ state-as _ _ (ready-wait r out _ wait f)
 
   module _ (y : r ≡ ready·.Yes) where
     -- no more are tracked than stand
@@ -405,21 +477,28 @@ module _ (q : Request) (out : List ℕ) (tlcs : List (List ℕ)) (firsts remote 
         let z = later-ready q tlcs ours (sym e ∙ y) in
         lists-few (trackedTlcs q) tlcs (length tlcs) 254 refl (z .0) (z .1)
 
-    module _ (s : Step) (f : s ≡ laterChoice q last) where
-      -- row 22
-      pub state-nothing : (pending : ℕ) → s ≡ step·.Pending pending → Gives (laterState q out tlcs firsts remote local) (answer·.Wait 22 0) out
-      state-nothing pending g = leaves-as _ _ (ready-yes r out _ y ∙ state-as) _ _ (nothing-chosen q remote local last (λ c. delay·.None) (laterPlace (q .h) firsts) out (laterChoice q last) pending (sym f ∙ g))
+    module _ (s : Pick) (f : s ≡ pickOf (laterChoice q last) (waitBy q stage·.Later)) where
+      -- rows 23 to 25
+      pub state-nothing : (wait : Wait) → s ≡ pick·.Wait wait → Gives (laterState q out tlcs firsts remote local) (answer·.Wait wait) out
+      state-nothing wait g =
+          let p = pick-wait (laterChoice q last) (waitBy q stage·.Later) wait (sym f ∙ g) in
+          rw (← p .1 .1)
+          (leaves-as _ _ (ready-yes r out _ y ∙ state-as) _ _
+          (nothing-chosen q remote local last (λ c. delay·.None) (laterPlace (q .h) firsts) (waitBy q stage·.Later) out (laterChoice q last) (p .0) (p .1 .0)))
 
-      module _ (choice : Choice) (key : Key) (g : s ≡ step·.Chosen choice key) where
+      module _ (choice : Choice) (key : Key) (g : s ≡ pick·.Chosen choice key) where
+        picked : laterChoice q last ≡ step·.Chosen choice key
+        picked = pick-chosen (laterChoice q last) (waitBy q stage·.Later) choice key (sym f ∙ g)
+
         pub state-within : Within (length (trackedTlcs q)) (length (pairs q)) choice
-        state-within = subst (StepWithin (length (trackedTlcs q)) (length (settlementTlcs q)) (length (pairs q))) (sym f ∙ g) (choice-within q last) .0
+        state-within = subst (StepWithin (length (trackedTlcs q)) (length (settlementTlcs q)) (length (pairs q))) picked (choice-within q last) .0
 
         -- what is handed out
         pub state-chosen : (place : ℕ) → place ≡ laterPlace (q .h) firsts choice → (a : ChoiceAnswer) (after : List ℕ)
             → Gives (handedOut (q .h) (q .args) (trackedTlcs q) (pairs q) remote local last choice key delay·.None place out) a after
             → Gives (laterState q out tlcs firsts remote local) a after
         state-chosen place k a after w =
-            leaves-as _ _ (one-chosen q remote local last (λ c. delay·.None) (laterPlace (q .h) firsts) out (laterChoice q last) choice key (sym f ∙ g) ∙ ready-yes r out _ y ∙ state-as) a after (rw k at w)
+            leaves-as _ _ (one-chosen q remote local last (λ c. delay·.None) (laterPlace (q .h) firsts) (waitBy q stage·.Later) out (laterChoice q last) choice key picked ∙ ready-yes r out _ y ∙ state-as) a after (rw k at w)
 
 module _ (q : Request) (w out : List ℕ) where
   -- a witness that is not read
@@ -515,7 +594,7 @@ module _ (q : Request) (full : Epoch) (b : Bool) (e : b ≡ lengthsZero (q .head
       few = le-leb (length (settlementTlcs q)) 254 (omega (arith, entries-length settlementLen (q .settlement .tlcs)))
 
       -- row 20
-      pub first-other : s ≡ false → ready·.Wait 20 ≡ firstReady q full
+      pub first-other : s ≡ false → ready·.Wait wait·.ListDiffers ≡ firstReady q full
       unfolding firstReady
       first-other k = rw (← e, f, few, ← g, k)
 
@@ -548,7 +627,7 @@ first-ready q full = go (lengthsZero (q .header) (q .current) full) (leb (length
   where
     go : (x y z : Bool) → lengthsZero (q .header) (q .current) full ≡ x → leb (length (settlementTlcs q)) 254 ≡ y
         → sameLists (firstRecords (q .h) (q .forRemote) (settlementTlcs q)) (trackedRecords (trackedTlcs q)) ≡ z
-        → cond x (ready·.Refused 7) (cond y (cond z ready·.Yes (ready·.Wait 20)) (ready·.Refused 12)) ≡ ready·.Yes → FirstReady q full
+        → cond x (ready·.Refused 7) (cond y (cond z ready·.Yes (ready·.Wait wait·.ListDiffers)) (ready·.Refused 12)) ≡ ready·.Yes → FirstReady q full
     go true y z a b c e = absurd (subst No e tt)
     go false false z a b c e = absurd (subst No e tt)
     go false true false a b c e = absurd (subst No e tt)
@@ -569,9 +648,9 @@ module _ (q : Request) (full : Epoch) (out : List ℕ) (r : Ready) (e : r ≡ fi
   unfolding first
   first-refused number f = ready-refused (firstReady q full) out _ number (sym e ∙ f)
 
-  pub first-wait : (number : ℕ) → r ≡ ready·.Wait number → Gives (first q full out) (answer·.Wait number 0) out
+  pub first-wait : (wait : Wait) → r ≡ ready·.Wait wait → Gives (first q full out) (answer·.Wait wait) out
   unfolding first
-  first-wait number f = ready-wait (firstReady q full) out _ number (sym e ∙ f)
+  first-wait wait f = ready-wait (firstReady q full) out _ wait (sym e ∙ f)
 
   -- none of them
   pub first-begins : r ≡ ready·.Yes → firstThirds q out full (scaled full 1 3) (scaled full 2 3) ≡ first q full out
@@ -591,7 +670,7 @@ local-by b d r e = e
 
 -- by the thirds of the delay, with what the code finds of them
 module _ (q : Request) (out : List ℕ) (full third two : Epoch) (x y : Scaled) (ex : x ≡ scaled full 1 3) (fx : x ≡ scaled·.Epoch third) (ey : y ≡ scaled full 2 3) (fy : y ≡ scaled·.Epoch two)
-    (d : Dues) (ed : d ≡ duesBy (q .header) third two full (q .current)) (s : Step) (es : s ≡ walkedBy q (stage·.First d)) where
+    (d : Dues) (ed : d ≡ duesBy (q .header) third two full (q .current)) (s : Pick) (es : s ≡ pickOf (walkedBy q (stage·.First d)) (waitBy q (stage·.First d))) where
   -- the delay that goes with a choice
   abbrev scaledDelay : Choice → Delay
   scaledDelay choice = delay·.Epoch (firstDelay third two full choice)
@@ -602,18 +681,30 @@ module _ (q : Request) (out : List ℕ) (full third two : Epoch) (x y : Scaled) 
   abbrev locally : List ℕ
   locally = firstLocal (q .forRemote) (q .settlement)
 
-  thirds-as : orWait q remotely locally false scaledDelay (firstPlace (q .h)) out s ≡ firstThirds q out full (scaled full 1 3) (scaled full 2 3)
+  -- the walk, and its wait
+  abbrev walks : Step
+  walks = walkedBy q (stage·.First d)
+
+  abbrev waits : Wait
+  waits = waitBy q (stage·.First d)
+
+  thirds-as : orWait q remotely locally false scaledDelay (firstPlace (q .h)) waits out walks ≡ firstThirds q out full (scaled full 1 3) (scaled full 2 3)
   unfolding firstThirds
-  thirds-as = rw (← ex, fx, ← ey, fy, ← ed, es)
+  thirds-as = rw (← ex, fx, ← ey, fy, ← ed)
 
-  -- row 22
-  pub thirds-nothing : (pending : ℕ) → s ≡ step·.Pending pending → Gives (firstThirds q out full (scaled full 1 3) (scaled full 2 3)) (answer·.Wait 22 0) out
-  thirds-nothing pending g = leaves-as _ _ thirds-as _ _ (nothing-chosen q remotely locally false scaledDelay (firstPlace (q .h)) out s pending g)
+  -- rows 22 to 25
+  pub thirds-nothing : (wait : Wait) → s ≡ pick·.Wait wait → Gives (firstThirds q out full (scaled full 1 3) (scaled full 2 3)) (answer·.Wait wait) out
+  thirds-nothing wait g =
+      let p = pick-wait walks waits wait (sym es ∙ g) in
+      rw (← p .1 .1) (leaves-as _ _ thirds-as _ _ (nothing-chosen q remotely locally false scaledDelay (firstPlace (q .h)) waits out walks (p .0) (p .1 .0)))
 
-  module _ (choice : Choice) (key : Key) (g : s ≡ step·.Chosen choice key) where
+  module _ (choice : Choice) (key : Key) (g : s ≡ pick·.Chosen choice key) where
+    thirds-picked : walks ≡ step·.Chosen choice key
+    thirds-picked = pick-chosen walks waits choice key (sym es ∙ g)
+
     pub thirds-within : length (settlementTlcs q) ≡ length (trackedTlcs q) → Within (length (trackedTlcs q)) (length (pairs q)) choice
     thirds-within e =
-        subst (StepWithin (length (trackedTlcs q)) (length (settlementTlcs q)) (length (pairs q))) (sym es ∙ g)
+        subst (StepWithin (length (trackedTlcs q)) (length (settlementTlcs q)) (length (pairs q))) thirds-picked
         (walked-within (q .h) (q .forRemote) (q .time) (settlementTlcs q) (pairs q) (stage·.First d) (length (trackedTlcs q)) (reaches-first d (length (trackedTlcs q)) (length (settlementTlcs q)) e) (trackedTlcs q) refl)
         .0
 
@@ -623,7 +714,7 @@ module _ (q : Request) (out : List ℕ) (full third two : Epoch) (x y : Scaled) 
         → Gives (handedOut (q .h) (q .args) (trackedTlcs q) (pairs q) remote local false choice key (delay·.Epoch delay) place out) a after
         → Gives (firstThirds q out full (scaled full 1 3) (scaled full 2 3)) a after
     thirds-chosen remote local delay place er el ed ep a after w =
-        leaves-as _ _ (one-chosen q remotely locally false scaledDelay (firstPlace (q .h)) out s choice key g ∙ thirds-as) a after (rw (er, el, ed, ep) at w)
+        leaves-as _ _ (one-chosen q remotely locally false scaledDelay (firstPlace (q .h)) waits out walks choice key thirds-picked ∙ thirds-as) a after (rw (er, el, ed, ep) at w)
 
 -- what is chosen is among the tracked TLCs
 pub first-within : (q : Request) (d : Dues) → length (settlementTlcs q) ≡ length (trackedTlcs q)
@@ -671,7 +762,7 @@ pub first-built : (q : Request) (full : Epoch) → firstReady q full ≡ ready·
 unfolding firstReady
 first-built q full r = lists-equal _ _ (go (lengthsZero (q .header) (q .current) full) (leb (length (settlementTlcs q)) 254) _ r)
   where
-    go : (x y z : Bool) → cond x (ready·.Refused 7) (cond y (cond z ready·.Yes (ready·.Wait 20)) (ready·.Refused 12)) ≡ ready·.Yes → z ≡ true
+    go : (x y z : Bool) → cond x (ready·.Refused 7) (cond y (cond z ready·.Yes (ready·.Wait wait·.ListDiffers)) (ready·.Refused 12)) ≡ ready·.Yes → z ≡ true
     go x y true e = refl
     go true y false e = let z : _≡_ {A = ℕ} 0 1 = cc in absurd (omega arith)
     go false true false e = let z : _≡_ {A = ℕ} 0 1 = cc in absurd (omega arith)

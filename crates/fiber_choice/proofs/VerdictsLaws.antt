@@ -28,13 +28,15 @@ use Rattle.fiber_choice.specs.declared.kinds.Key.the-variants as key·
 use Rattle.fiber_choice.specs.declared.kinds.Found.{Found}
 use Rattle.fiber_choice.specs.declared.kinds.Found.the-variants as found·
 use Rattle.fiber_choice.specs.declared.kinds.Dues.{Dues}
+use Rattle.fiber_choice.specs.declared.kinds.Cause.{Cause}
+use Rattle.fiber_choice.specs.declared.kinds.Cause.the-variants as cause·
 use Rattle.fiber_choice.specs.declared.kinds.Stage.{Stage}
 use Rattle.fiber_choice.specs.declared.kinds.Stage.the-variants as stage·
 use Rattle.fiber_choice.specs.declared.kinds.Step.{Step}
 use Rattle.fiber_choice.specs.declared.kinds.Step.the-variants as step·
 use Rattle.fiber_choice.specs.Entries.{same, entries, received, hash, expiryMs, settlementLen, trackedRecord, localKey}
 use Rattle.fiber_choice.specs.Preimages.{countingPair}
-use Rattle.fiber_choice.specs.Walk.{timeoutKind, Cause, noExpiry, noKey, notDue, noPreimage, Verdict, passed, timeout, ready, falls, stepOf}
+use Rattle.fiber_choice.specs.Walk.{timeoutKind, Verdict, passed, timeout, ready, falls, stepOf}
 use Rattle.fiber_choice.specs.FirstRecords.{hashOf}
 use Rattle.fiber_choice.specs.Verdicts.{isKey, keyOf, byPair, byKey, byExpiry, laterVerdict, duesBy, firstVerdict, verdict}
 use Rattle.fiber_choice.specs.inner.Plan.{Reaches}
@@ -103,12 +105,12 @@ module _ (time place pending : ℕ) where
     pub timeout-early : (foundPair key : Found) → step·.Pending pending ≡ stepOf time place pending (byKey true ms foundPair key)
     unfolding byKey
     timeout-early foundPair (found·.At key) = timeout-before key
-    timeout-early foundPair found·.None = step-passed noKey
+    timeout-early foundPair found·.None = step-passed cause·.NoKey
 
     pub preimage-early : (foundPair key : Found) → foundPair ≡ found·.None → step·.Pending pending ≡ stepOf time place pending (byKey false ms foundPair key)
     unfolding byKey byPair
     preimage-early foundPair (found·.At key) f = rw f falls-before
-    preimage-early foundPair found·.None f = step-passed noKey
+    preimage-early foundPair found·.None f = step-passed cause·.NoKey
 
   -- and behind it
   module _ (ms : ℕ) (e : ms < time) where
@@ -124,7 +126,7 @@ module _ (time place pending : ℕ) where
 
 module _ (ms : ℕ) (foundPair key : Found) where
   -- without a key
-  pub key-missing : (isTimeout : Bool) → found·.None ≡ key → passed noKey ≡ byKey isTimeout ms foundPair key
+  pub key-missing : (isTimeout : Bool) → found·.None ≡ key → passed cause·.NoKey ≡ byKey isTimeout ms foundPair key
   unfolding byKey
   key-missing isTimeout f = rw (← f)
 
@@ -134,7 +136,12 @@ module _ (ms : ℕ) (foundPair key : Found) where
     unfolding byKey
     key-timeout = rw (← f)
 
-    -- preimage kind, with a pair that counts
+    -- preimage kind
+    pub key-pair : byPair true ms k foundPair ≡ byKey false ms foundPair key
+    unfolding byKey
+    key-pair = rw (← f)
+
+    -- with a pair that counts
     pub key-ready : (p : ℕ) → foundPair ≡ found·.At p → ready p k ≡ byKey false ms foundPair key
     unfolding byKey byPair
     key-ready p g = rw (g, ← f)
@@ -153,7 +160,7 @@ read-there h t l k n e x f =
 
 module _ (h : ℕ) (forRemote : Bool) (tlcs ps : List (List ℕ)) (t : List ℕ) (tlc : Tlc) (r : tlc ≡ tlcAt h (trackedRecord t) 0) (x : Expiry) (e : x ≡ absoluteExpiry (tlc .expiry)) where
   -- a TLC without an expiry
-  pub later-none : x ≡ expiry·.None → passed noExpiry ≡ laterVerdict h forRemote tlcs ps t
+  pub later-none : x ≡ expiry·.None → passed cause·.NoExpiry ≡ laterVerdict h forRemote tlcs ps t
   unfolding laterVerdict byExpiry
   later-none f = rw (← r, ← e, f)
 
@@ -173,18 +180,23 @@ module _ (forRemote : Bool) (ps : List (List ℕ)) (d : Dues) (place : ℕ) (s t
     first-due ms e f = rw (e, ← g, k, f)
 
     -- or not
-    pub first-undue : d .«two_thirds» ≡ false → passed notDue ≡ firstVerdict forRemote ps d place s t
+    pub first-undue : d .«two_thirds» ≡ false → passed cause·.NotDue ≡ firstVerdict forRemote ps d place s t
     unfolding firstVerdict
     first-undue f = rw (← g, k, f)
 
   module _ (k : kind ≡ false) where
     -- preimage kind, before a third of the delay
-    pub first-early : d .third ≡ false → passed notDue ≡ firstVerdict forRemote ps d place s t
+    pub first-early : d .third ≡ false → passed cause·.NotDue ≡ firstVerdict forRemote ps d place s t
     unfolding firstVerdict
     first-early f = rw (← g, k, f)
 
+    -- behind it
+    pub first-pair : d .third ≡ true → byPair (d .full) (expiryMs s) place (countingPair ps t) ≡ firstVerdict forRemote ps d place s t
+    unfolding firstVerdict
+    first-pair f = rw (← g, k, f)
+
     module _ (f : d .third ≡ true) (found : Found) (p : found ≡ countingPair ps t) where
-      -- and behind it, with a preimage that counts
+      -- with a preimage that counts
       pub first-ready : (pairPlace : ℕ) → found ≡ found·.At pairPlace → ready pairPlace place ≡ firstVerdict forRemote ps d place s t
       unfolding firstVerdict byPair
       first-ready pairPlace q = rw (← g, k, f, ← p, q)
@@ -195,7 +207,7 @@ module _ (forRemote : Bool) (ps : List (List ℕ)) (d : Dues) (place : ℕ) (s t
       first-falls ms e q r = rw (e, ← g, k, f, ← p, q, r)
 
       -- or not
-      pub first-waits : found ≡ found·.None → d .full ≡ false → passed noPreimage ≡ firstVerdict forRemote ps d place s t
+      pub first-waits : found ≡ found·.None → d .full ≡ false → passed cause·.NoPreimage ≡ firstVerdict forRemote ps d place s t
       unfolding firstVerdict byPair
       first-waits q r = rw (← g, k, f, ← p, q, r)
 

@@ -26,5 +26,5 @@ recordPart isLater place len w tracked = part (cond isLater w tracked) place len
 -- the record of the TLC that was chosen; the empty part for a share, a wait or a refusal
 unfoldable pub recordOf : Bool → ChoiceAnswer → List ℕ → List ℕ → List ℕ
 recordOf isLater (answer·.Chosen d) w tracked = recordPart isLater (d .place) (d .len) w tracked
-recordOf isLater (answer·.Wait number place) w tracked = recordPart isLater 0 0 w tracked
+recordOf isLater (answer·.Wait wait) w tracked = recordPart isLater 0 0 w tracked
 recordOf isLater (answer·.Refused number place) w tracked = recordPart isLater 0 0 w tracked

@@ -1,4 +1,4 @@
--- The two settlements; docs/SCOPE.md, "Later settlement" and "First settlement", with rows 7, 12, 20, 21 and 22 of its table.
+-- The two settlements; docs/SCOPE.md, "Later settlement" and "First settlement", with rows 7, 12 and 20 to 25 of its table.
 use Prim.Native.Nat.{ℕ, zero, suc, _+_, _*_}
 use mathlib.Core.Bool.{Bool, false, cond, _||_}
 use mathlib.Core.List.{List, [], _∷_}
@@ -16,6 +16,8 @@ use Rattle.fiber_choice.specs.declared.kinds.Delay.{Delay}
 use Rattle.fiber_choice.specs.declared.kinds.Delay.the-variants as delay·
 use Rattle.fiber_choice.specs.declared.kinds.Stage.{Stage}
 use Rattle.fiber_choice.specs.declared.kinds.Stage.the-variants as stage·
+use Rattle.fiber_choice.specs.declared.kinds.Wait.{Wait}
+use Rattle.fiber_choice.specs.declared.kinds.Wait.the-variants as wait·
 use Rattle.fiber_choice.specs.declared.kinds.Ready.{Ready}
 use Rattle.fiber_choice.specs.declared.kinds.Ready.the-variants as ready·
 use Rattle.fiber_choice.specs.declared.kinds.Step.{Step}
@@ -28,7 +30,8 @@ use Rattle.fiber_choice.specs.Entries.{same, sameLists, trackedLen, trac
 use Rattle.fiber_choice.specs.Request.{Request, settlementTlcs, trackedTlcs, pairs}
 use Rattle.fiber_choice.specs.FirstRecords.{hashOf, firstRecords, firstRemote, firstLocal}
 use Rattle.fiber_choice.specs.Walk.{ourShare}
-use Rattle.fiber_choice.specs.Verdicts.{duesBy, walked}
+use Rattle.fiber_choice.specs.Verdicts.{duesBy, verdicts, walked}
+use Rattle.fiber_choice.specs.Waits.{firstPending}
 use Rattle.fiber_types.specs.Records.{Outcome, unwritten}
 use Rattle.fiber_choice.specs.HandedOut.{handedOut}
 
@@ -36,16 +39,20 @@ use Rattle.fiber_choice.specs.HandedOut.{handedOut}
 abbrev pub walkedBy : Request → Stage → Step
 walkedBy q stage = walked (q .h) (q .forRemote) (q .time) (settlementTlcs q) (pairs q) stage (trackedTlcs q)
 
--- what is chosen is handed out, over shares, with the delay and the place that go with it; 22 where nothing is chosen
-unfoldable pub orWait : Request → List ℕ → List ℕ → Bool → (Choice → Delay) → (Choice → ℕ) → List ℕ → Step → Outcome ChoiceAnswer
-orWait q remote local last delay place out (step·.Chosen choice key) =
+-- and the first of them that is still pending
+abbrev pub waitBy : Request → Stage → Wait
+waitBy q stage = firstPending (q .time) 0 (verdicts (q .h) (q .forRemote) (settlementTlcs q) (pairs q) stage 0 (trackedTlcs q))
+
+-- what is chosen is handed out, over shares, with the delay and the place that go with it; where nothing is chosen, the wait
+unfoldable pub orWait : Request → List ℕ → List ℕ → Bool → (Choice → Delay) → (Choice → ℕ) → Wait → List ℕ → Step → Outcome ChoiceAnswer
+orWait q remote local last delay place wait out (step·.Chosen choice key) =
     handedOut (q .h) (q .args) (trackedTlcs q) (pairs q) remote local last choice key (delay choice) (place choice) out
-orWait q remote local last delay place out (step·.Pending pending) = unwritten (answer·.Wait 22 0) out
+orWait q remote local last delay place wait out (step·.Pending pending) = unwritten (answer·.Wait wait) out
 
 -- before the walk: a row, or what the walk comes to
 unfoldable pub ifReady : Ready → List ℕ → Outcome ChoiceAnswer → Outcome ChoiceAnswer
 ifReady ready·.Yes out o = o
-ifReady (ready·.Wait number) out o = unwritten (answer·.Wait number 0) out
+ifReady (ready·.Wait wait) out o = unwritten (answer·.Wait wait) out
 ifReady (ready·.Refused number) out o = unwritten (answer·.Refused number 0) out
 
 -- ---- later settlement
@@ -55,8 +62,8 @@ unfoldable pub laterReady : Request → List (List ℕ) → List ℕ → Ready
 laterReady q tlcs ours =
     cond (leb (length tlcs) 254)
     (cond (sameLists tlcs (trackedRecords (trackedTlcs q)))
-    (cond (same (take 20 ours) (hashOf (q .settlement .localKey))) ready·.Yes (ready·.Wait 21))
-    (ready·.Wait 20))
+    (cond (same (take 20 ours) (hashOf (q .settlement .localKey))) ready·.Yes (ready·.Wait wait·.NotOurShare))
+    (ready·.Wait wait·.ListDiffers))
     (ready·.Refused 12)
 
 -- the last settlement: the other slot's key hash is all zeros
@@ -84,7 +91,7 @@ unfoldable pub laterState : Request → List ℕ → List (List ℕ) → List �
 laterState q out tlcs firsts remote local =
     let ours = cond (q .forRemote) local remote in
     let last = isLast (cond (q .forRemote) remote local) in
-    ifReady (laterReady q tlcs ours) out (orWait q remote local last (λ choice. delay·.None) (laterPlace (q .h) firsts) out (laterChoice q last))
+    ifReady (laterReady q tlcs ours) out (orWait q remote local last (λ choice. delay·.None) (laterPlace (q .h) firsts) (waitBy q stage·.Later) out (laterChoice q last))
 
 -- a witness is given; update first
 unfoldable pub laterOf : Request → List ℕ → List ℕ → Unlocked → Outcome ChoiceAnswer
@@ -111,9 +118,9 @@ firstPlace h (choice·.Tlc place way) = place * trackedLen h + 33
 
 unfoldable pub firstThirds : Request → List ℕ → Epoch → Scaled → Scaled → Outcome ChoiceAnswer
 firstThirds q out full (scaled·.Epoch third) (scaled·.Epoch twoThirds) =
+    let stage = stage·.First (duesBy (q .header) third twoThirds full (q .current)) in
     orWait q (firstRemote (q .forRemote) (q .settlement)) (firstLocal (q .forRemote) (q .settlement)) false
-    (λ choice. delay·.Epoch (firstDelay third twoThirds full choice)) (firstPlace (q .h)) out
-    (walkedBy q (stage·.First (duesBy (q .header) third twoThirds full (q .current))))
+    (λ choice. delay·.Epoch (firstDelay third twoThirds full choice)) (firstPlace (q .h)) (waitBy q stage) out (walkedBy q stage)
 firstThirds q out full (scaled·.Epoch third) (scaled·.Refused number place) = unwritten (answer·.Refused number place) out
 firstThirds q out full (scaled·.Refused number place) twoThirds = unwritten (answer·.Refused number place) out
 
@@ -125,7 +132,7 @@ unfoldable pub firstReady : Request → Epoch → Ready
 firstReady q full =
     cond (lengthsZero (q .header) (q .current) full) (ready·.Refused 7)
     (cond (leb (length (settlementTlcs q)) 254)
-    (cond (sameLists (firstRecords (q .h) (q .forRemote) (settlementTlcs q)) (trackedRecords (trackedTlcs q))) ready·.Yes (ready·.Wait 20))
+    (cond (sameLists (firstRecords (q .h) (q .forRemote) (settlementTlcs q)) (trackedRecords (trackedTlcs q))) ready·.Yes (ready·.Wait wait·.ListDiffers))
     (ready·.Refused 12))
 
 unfoldable pub first : Request → Epoch → List ℕ → Outcome ChoiceAnswer

@@ -13,13 +13,14 @@ use Rattle.fiber_types.specs.Records.{isOffered, tlcAt, paymentHash, keyHashIn}
 use Rattle.fiber_choice.specs.declared.kinds.Found.{Found}
 use Rattle.fiber_choice.specs.declared.kinds.Found.the-variants as found·
 use Rattle.fiber_choice.specs.declared.kinds.Dues.{Dues}
+use Rattle.fiber_choice.specs.declared.kinds.Cause.the-variants as cause·
 use Rattle.fiber_choice.specs.declared.kinds.Stage.{Stage}
 use Rattle.fiber_choice.specs.declared.kinds.Stage.the-variants as stage·
 use Rattle.fiber_choice.specs.declared.kinds.Step.{Step}
 use Rattle.fiber_choice.specs.Entries.{same, findFirst, received, hash, expiryMs, localKey, trackedRecord}
 use Rattle.fiber_choice.specs.FirstRecords.{hashOf}
 use Rattle.fiber_choice.specs.Preimages.{countingPair}
-use Rattle.fiber_choice.specs.Walk.{timeoutKind, Verdict, passed, noExpiry, noKey, notDue, noPreimage, timeout, ready, falls, walk, orShare}
+use Rattle.fiber_choice.specs.Walk.{timeoutKind, Verdict, passed, timeout, ready, falls, walk, orShare}
 
 -- ---- later settlement
 
@@ -34,17 +35,17 @@ keyOf h forRemote tlcs r = findFirst (isKey (paymentHash h r) (keyHashIn h forRe
 -- preimage kind, with its key: chosen with a counting preimage; without one, pending falls if the full delay is due and time > expiry
 unfoldable pub byPair : Bool → ℕ → ℕ → Found → Verdict
 byPair full ms key (found·.At pairPlace) = ready pairPlace key
-byPair full ms key found·.None = cond full (falls ms) (passed noPreimage)
+byPair full ms key found·.None = cond full (falls ms) (passed cause·.NoPreimage)
 
 -- without a key passed over; no delay is left to wait for
 unfoldable pub byKey : Bool → ℕ → Found → Found → Verdict
 byKey isTimeout ms foundPair (found·.At key) = cond isTimeout (timeout ms key) (byPair true ms key foundPair)
-byKey isTimeout ms foundPair found·.None = passed noKey
+byKey isTimeout ms foundPair found·.None = passed cause·.NoKey
 
 -- without an absolute timestamp expiry passed over
 unfoldable pub byExpiry : Bool → Found → Found → Expiry → Verdict
 byExpiry isTimeout foundPair foundKey (expiry·.At ms) = byKey isTimeout ms foundPair foundKey
-byExpiry isTimeout foundPair foundKey expiry·.None = passed noExpiry
+byExpiry isTimeout foundPair foundKey expiry·.None = passed cause·.NoExpiry
 
 -- a tracked TLC, among the settlement TLCs and the stored preimages
 unfoldable pub laterVerdict : ℕ → Bool → List (List ℕ) → List (List ℕ) → List ℕ → Verdict
@@ -64,8 +65,8 @@ duesBy header third twoThirds full current =
 unfoldable pub firstVerdict : Bool → List (List ℕ) → Dues → ℕ → List ℕ → List ℕ → Verdict
 firstVerdict forRemote ps d place s t =
     cond (timeoutKind forRemote (eqb (received s) 0))
-    (cond (d .«two_thirds») (timeout (expiryMs s) place) (passed notDue))
-    (cond (d .third) (byPair (d .full) (expiryMs s) place (countingPair ps t)) (passed notDue))
+    (cond (d .«two_thirds») (timeout (expiryMs s) place) (passed cause·.NotDue))
+    (cond (d .third) (byPair (d .full) (expiryMs s) place (countingPair ps t)) (passed cause·.NotDue))
 
 -- ---- both
 

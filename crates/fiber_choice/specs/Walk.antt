@@ -9,6 +9,7 @@ use Rattle.fiber_choice.specs.declared.kinds.Side.the-variants as side·
 use Rattle.fiber_choice.specs.declared.kinds.Way.the-variants as way·
 use Rattle.fiber_choice.specs.declared.kinds.Choice.the-variants as choice·
 use Rattle.fiber_choice.specs.declared.kinds.Key.the-variants as key·
+use Rattle.fiber_choice.specs.declared.kinds.Cause.{Cause}
 use Rattle.fiber_choice.specs.declared.kinds.Step.{Step}
 use Rattle.fiber_choice.specs.declared.kinds.Step.the-variants as step·
 
@@ -27,19 +28,9 @@ timeoutKind forRemote offered = cond forRemote offered (not offered)
 
 -- ---- a TLC
 
--- why a TLC is passed over, and stays pending whatever the time
-pub data Cause : Type 0 where
-  -- it has no absolute timestamp expiry
-  noExpiry : Cause
-  -- no settlement TLC has its key
-  noKey : Cause
-  -- its part of the delay, 1/3 or 2/3, isn't due
-  notDue : Cause
-  -- no preimage counts, and the full delay isn't due
-  noPreimage : Cause
-
 -- The numbers are an expiry in ms, the place of the key among the settlement TLCs, the place of a pair among the stored preimages.
 pub data Verdict : Type 0 where
+  -- passed over for a cause: it stays pending whatever the time
   passed : Cause → Verdict
   -- timeout kind: chosen if time > expiry
   timeout : (ms key : ℕ) → Verdict

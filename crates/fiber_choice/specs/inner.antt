@@ -1,2 +1,3 @@
 -- Definitions that only contracts of inner functions cite.
 pub mod Plan
+pub mod Noting

@@ -65,10 +65,36 @@ pub enum Stage {
     Later,
 }
 
-// Whether the walk may begin; else a wait or a refusal, by its number.
+// Why a TLC is still pending.
+pub enum Cause {
+    // A later settlement passes it over: it has no absolute timestamp expiry.
+    NoExpiry,
+    // A later settlement passes it over: no settlement TLC has its key.
+    NoKey,
+    // A first settlement: its part of the delay, 1/3 or 2/3, isn't due.
+    NotDue,
+    // Timeout kind: its expiry has not passed.
+    NotExpired,
+    // Preimage kind: no preimage counts, and its expiry has not passed or, in a first settlement, the full delay isn't due.
+    NoPreimage,
+}
+
+// What a choice waits for.
+pub enum Wait {
+    // The tracked list is not that of the TLCs.
+    ListDiffers,
+    // Our share isn't there.
+    NotOurShare,
+    // A first settlement without TLCs: the full delay isn't due.
+    DelayNotDue,
+    // The first TLC that is still pending, by its place.
+    Tlc { place: usize, cause: Cause },
+}
+
+// Whether the walk may begin; else a wait, or a refusal by its number.
 pub enum Ready {
     Yes,
-    Wait(usize),
+    Wait(Wait),
     Refused(usize),
 }
 
@@ -76,6 +102,18 @@ pub enum Ready {
 pub enum Step {
     Pending(usize),
     Chosen { choice: Choice, key: Key },
+}
+
+// The walk as a whole, and the first place at which its count stayed: all TLCs before it fell.
+pub struct Noted {
+    pub step: Step,
+    pub first: usize,
+}
+
+// What a settlement comes to: a choice, or what it waits for.
+pub enum Pick {
+    Chosen { choice: Choice, key: Key },
+    Wait(Wait),
 }
 
 // What is decided: the choice, its amount, key and delay; the lengths of the three parts of the output; place and length of
@@ -95,8 +133,8 @@ pub struct Decision {
 
 pub enum ChoiceAnswer {
     Chosen(Decision),
-    // Nothing to unlock as things stand, by row 20, 21 or 22 of document 01's table: ask again.
-    Wait { number: usize, place: usize },
+    // Nothing to unlock as things stand, by a row from 20 on: ask again.
+    Wait(Wait),
     // Turned down by any other row.
     Refused { number: usize, place: usize },
 }

@@ -5,3 +5,4 @@ mod key;
 pub mod preimage;
 pub mod slot;
 pub mod step;
+pub mod wait;

@@ -1,8 +1,5 @@
 // Our slot, and the two kinds of TLCs.
-use fiber_choice::kinds::Choice;
-use fiber_choice::kinds::Key;
 use fiber_choice::kinds::Side;
-use fiber_choice::kinds::Step;
 ghost use mathlib.Core.Path.{_≡_};
 ghost use Rattle.fiber_choice.specs.Walk as S;
 
@@ -17,16 +14,11 @@ pub fn timeout_kind(for_remote: bool, offered: bool) -> bool
 }
 
 // Our slot is local with for_remote, else remote.
-pub fn our_share(for_remote: bool) -> Step
-    ensures { λ r. ⌜ r ≡ S.ourShare «for_remote» ⌝ }
+pub fn our_side(for_remote: bool) -> Side
+    ensures { λ r. ⌜ r ≡ S.ourSide «for_remote» ⌝ }
 {
-    let side = if for_remote {
-        Side::Local
-    } else {
-        Side::Remote
-    };
-    Step::Chosen {
-        choice: Choice::Share(side),
-        key: Key::Settlement,
+    if for_remote {
+        return Side::Local;
     }
+    Side::Remote
 }

@@ -4,10 +4,11 @@ use fiber_choice::kinds::Choice;
 use fiber_choice::kinds::ChoiceAnswer;
 use fiber_choice::kinds::Delay;
 use fiber_choice::kinds::Dues;
+use fiber_choice::kinds::Pick;
 use fiber_choice::kinds::Ready;
 use fiber_choice::kinds::Scalars;
 use fiber_choice::kinds::Stage;
-use fiber_choice::kinds::Step;
+use fiber_choice::kinds::Wait;
 use fiber_choice::kinds::Way;
 use fiber_first::built::same_as_tracked;
 use fiber_first::built::share_by;
@@ -122,7 +123,7 @@ fn first_thirds(
         };
     };
     let dues = dues_by(scalars.header, third, two_thirds, full, scalars.current);
-    let Step::Chosen { choice, key } = walked(
+    match walked(
         scalars.h,
         scalars.for_remote,
         scalars.time,
@@ -130,42 +131,41 @@ fn first_thirds(
         tlcs,
         preimages,
         tracked,
-    ) else {
-        return ChoiceAnswer::Wait {
-            number: 22,
-            place: 0,
-        };
-    };
-    let remote = share_by(
-        scalars.for_remote,
-        remote_key,
-        scalars.remote_amount,
-        local_key,
-        scalars.local_amount,
-    );
-    let local = share_by(
-        scalars.for_remote,
-        local_key,
-        scalars.local_amount,
-        remote_key,
-        scalars.remote_amount,
-    );
-    let delay = Delay::Epoch(delay_for(third, two_thirds, full, choice));
-    let place = first_place(scalars.h, choice);
-    write_output(
-        scalars.h,
-        args,
-        tracked,
-        preimages,
-        remote,
-        local,
-        false,
-        choice,
-        key,
-        delay,
-        place,
-        out,
-    )
+    ) {
+        Pick::Wait(wait) => ChoiceAnswer::Wait(wait),
+        Pick::Chosen { choice, key } => {
+            let remote = share_by(
+                scalars.for_remote,
+                remote_key,
+                scalars.remote_amount,
+                local_key,
+                scalars.local_amount,
+            );
+            let local = share_by(
+                scalars.for_remote,
+                local_key,
+                scalars.local_amount,
+                remote_key,
+                scalars.remote_amount,
+            );
+            let delay = Delay::Epoch(delay_for(third, two_thirds, full, choice));
+            let place = first_place(scalars.h, choice);
+            write_output(
+                scalars.h,
+                args,
+                tracked,
+                preimages,
+                remote,
+                local,
+                false,
+                choice,
+                key,
+                delay,
+                place,
+                out,
+            )
+        }
+    }
 }
 
 // A length of 0 in one of the three epochs.
@@ -196,7 +196,7 @@ fn first_ready(scalars: Scalars, full: Epoch, tlcs: &[u8], tracked: &[u8]) -> Re
     if same_as_tracked(scalars.h, scalars.for_remote, tlcs, tracked) {
         return Ready::Yes;
     }
-    Ready::Wait(20)
+    Ready::Wait(Wait::ListDiffers)
 }
 
 // A first settlement: the rows before the walk, then the walk.
@@ -222,7 +222,7 @@ pub fn choose_first(
 {
     match first_ready(scalars, full, tlcs, tracked) {
         Ready::Refused(number) => ChoiceAnswer::Refused { number, place: 0 },
-        Ready::Wait(number) => ChoiceAnswer::Wait { number, place: 0 },
+        Ready::Wait(wait) => ChoiceAnswer::Wait(wait),
         Ready::Yes => first_thirds(
             scalars,
             full,

@@ -1,16 +1,18 @@
 // The later settlement: the TLCs that stand after the witness's own unlocks are walked in order.
-use fiber_step::slot::our_share;
 use crate::walk::walked;
 use fiber_bytes::part_of;
 use fiber_choice::kinds::Choice;
 use fiber_choice::kinds::ChoiceAnswer;
 use fiber_choice::kinds::Delay;
+use fiber_choice::kinds::Key;
+use fiber_choice::kinds::Pick;
 use fiber_choice::kinds::Ready;
 use fiber_choice::kinds::Scalars;
 use fiber_choice::kinds::Stage;
-use fiber_choice::kinds::Step;
+use fiber_choice::kinds::Wait;
 use fiber_first::entries::same;
 use fiber_output::output::write_output;
+use fiber_step::slot::our_side;
 use fiber_types::key::key_hash;
 use fiber_types::layout::MOST_TLCS;
 use fiber_types::layout::RECORD_FIXED;
@@ -36,6 +38,8 @@ ghost use Rattle.fiber_choice.specs.Entries.{same, sameLists, entries, trackedL
 ghost use Rattle.fiber_choice.specs.Request.{requestOf};
 ghost use Rattle.fiber_choice.specs.FirstRecords.{hashOf};
 ghost use Rattle.fiber_types.specs.Records.{Gives};
+ghost use Rattle.fiber_choice.specs.declared.kinds.Stage.the-variants as stage·;
+ghost use Rattle.fiber_choice.specs.inner.Noting.{pickOf};
 ghost use Rattle.fiber_choice.specs.Settlements as S;
 
 // Whether the records that stand of a witness, k of n, are those of the tracked list, one for one.
@@ -122,10 +126,10 @@ fn later_ready(
         return Ready::Refused(12);
     }
     if !same_standing(scalars.h, w, n, marks, k, tracked) {
-        return Ready::Wait(20);
+        return Ready::Wait(Wait::ListDiffers);
     }
     if !is_share_of(ours, local_key) {
-        return Ready::Wait(21);
+        return Ready::Wait(Wait::NotOurShare);
     }
     Ready::Yes
 }
@@ -139,13 +143,17 @@ fn is_last(other: [u8; 36]) -> bool
 }
 
 // Our share in the last settlement, TLCs not looked at; else the walk.
-fn later_choice(scalars: Scalars, tlcs: &[u8], preimages: &[u8], tracked: &[u8], last: bool) -> Step
+fn later_choice(scalars: Scalars, tlcs: &[u8], preimages: &[u8], tracked: &[u8], last: bool) -> Pick
     requires { ⌜ (validHashLen (scalars .h) ≡ true) × (length (entries (trackedLen (scalars .h)) (now tracked)) ≤ 254) ⌝ }
-    ensures { λ r. ⌜ ((args localKey remoteKey : List ℕ) → r ≡ S.laterChoice
-        (requestOf scalars args (now (tlcs .entry)) localKey remoteKey (now (tracked .entry)) (now (preimages .entry))) last) ⌝ }
+    ensures { λ r. ⌜ ((args localKey remoteKey : List ℕ) → r ≡ pickOf
+        (S.laterChoice (requestOf scalars args (now (tlcs .entry)) localKey remoteKey (now (tracked .entry)) (now (preimages .entry))) last)
+        (S.waitBy (requestOf scalars args (now (tlcs .entry)) localKey remoteKey (now (tracked .entry)) (now (preimages .entry))) stage·.Later)) ⌝ }
 {
     if last {
-        return our_share(scalars.for_remote);
+        return Pick::Chosen {
+            choice: Choice::Share(our_side(scalars.for_remote)),
+            key: Key::Settlement,
+        };
     }
     walked(
         scalars.h,
@@ -187,13 +195,10 @@ fn later_state(
     let last = is_last(other);
     match later_ready(scalars, local_key, tracked, w, n, marks, ours) {
         Ready::Refused(number) => ChoiceAnswer::Refused { number, place: 0 },
-        Ready::Wait(number) => ChoiceAnswer::Wait { number, place: 0 },
+        Ready::Wait(wait) => ChoiceAnswer::Wait(wait),
         Ready::Yes => match later_choice(scalars, tlcs, preimages, tracked, last) {
-            Step::Pending(_) => ChoiceAnswer::Wait {
-                number: 22,
-                place: 0,
-            },
-            Step::Chosen { choice, key } => {
+            Pick::Wait(wait) => ChoiceAnswer::Wait(wait),
+            Pick::Chosen { choice, key } => {
                 let place = later_place(scalars.h, marks, n, choice);
                 write_output(
                     scalars.h,

@@ -4,10 +4,10 @@
 use fiber_bytes::part_of;
 use fiber_bytes::put;
 use fiber_choice::kinds::Found;
+use fiber_step::preimage;
 use fiber_types::layout::PAIR;
 use fiber_types::layout::TRACKED_FIXED;
 use fiber_types::tlc::valid_hash_len;
-use fiber_step::preimage;
 use libc::STDOUT_FILENO;
 use preimage_list::Preimage;
 use std::num::wrapping_add_u64;

@@ -16,6 +16,7 @@ use Rattle.fiber_choice.specs.declared.kinds.ChoiceAnswer.the-variants as answe
 use Rattle.fiber_bytes.specs.Bytes.{numbers}
 use Rattle.fiber_choice.specs.Request.{requestOf}
 use Rattle.fiber_choice.specs.HandedOut.{choiceByte}
+use Rattle.fiber_choice.specs.Waits.{waitNumber, waitPlace}
 use Rattle.fiber_choice.specs.Choice.{choiceOf}
 use Rattle.c_answer.specs.Answers.{Answer, row, fields, OutCall, isFlag, flagCall}
 
@@ -61,7 +62,7 @@ decisionNumbers d =
 -- 152 bytes: behind the front the seventeen numbers
 unfoldable pub chooseAnswer : ChoiceAnswer → Answer
 chooseAnswer (answer·.Chosen d) = fields (numbers (decisionNumbers d))
-chooseAnswer (answer·.Wait number place) = row number place
+chooseAnswer (answer·.Wait wait) = row (waitNumber wait) (waitPlace wait)
 chooseAnswer (answer·.Refused number place) = row number place
 
 unfoldable pub chooseCall : ℕ → ℕ → ℕ → ℕ → ℕ → ℕ → ℕ → ℕ → ℕ → ℕ → ℕ → ℕ → ℕ → ℕ

@@ -14,6 +14,7 @@ use watchtower::choice::Key;
 use watchtower::choice::Scalars;
 use watchtower::choice::Side;
 use watchtower::choice::Way;
+use watchtower::wait;
 ghost use mathlib.Core.Path.{_≡_};
 ghost use mathlib.Core.List.{[]};
 ghost use Rattle.c_answer.specs.Answers.{answered, Leaves};
@@ -101,7 +102,7 @@ fn answer_choice(answer: &mut [u8], choice: ChoiceAnswer) -> u64
 {
     match choice {
         ChoiceAnswer::Chosen(decision) => accept(answer, &decision_numbers(decision)),
-        ChoiceAnswer::Wait { number, place } => refuse(answer, number, place),
+        ChoiceAnswer::Wait(waits) => refuse(answer, wait::number(waits), wait::place(waits)),
         ChoiceAnswer::Refused { number, place } => refuse(answer, number, place),
     }
 }

@@ -1,6 +1,7 @@
 // The choice of an unlock: what may be chosen, and one operation for a first and a later settlement.
 use fiber_bytes::le64;
 use fiber_bytes::part_of;
+pub use fiber_choice::kinds::Cause;
 pub use fiber_choice::kinds::Choice;
 pub use fiber_choice::kinds::ChoiceAnswer;
 pub use fiber_choice::kinds::Decision;
@@ -8,6 +9,7 @@ pub use fiber_choice::kinds::Delay;
 pub use fiber_choice::kinds::Key;
 pub use fiber_choice::kinds::Scalars;
 pub use fiber_choice::kinds::Side;
+pub use fiber_choice::kinds::Wait;
 pub use fiber_choice::kinds::Way;
 use fiber_first::entries::valid_data;
 use fiber_first::entries::valid_tracked;
@@ -201,10 +203,7 @@ pub fn record_of<'a>(
         ChoiceAnswer::Chosen(decision) => {
             record_part(is_later, decision.place, decision.len, witness, tracked)
         }
-        ChoiceAnswer::Wait {
-            number: _,
-            place: _,
-        } => { no_record(is_later, witness, tracked) }
+        ChoiceAnswer::Wait(_) => no_record(is_later, witness, tracked),
         ChoiceAnswer::Refused {
             number: _,
             place: _,

@@ -47,7 +47,7 @@ impl Cell {
         Cell::of(hash_length, commitment, list(), balances)
     }
 
-    fn of(
+    pub fn of(
         hash_length: HashLength,
         commitment: Commitment,
         list: Vec<SettlementTlc>,
@@ -119,12 +119,29 @@ pub fn at(time: u64) -> MedianTime {
 
 /// The state, a side's unlock of its share behind it, as it is on chain; and the args of the cell that this makes.
 pub fn share_paid(state: &State, args: &LockArgs, party: Party) -> (Vec<u8>, LockArgs) {
-    let on_chain = [&CHAIN_PREFIX[..], &[1], state.as_bytes(), &[party.share_byte(), 0], &[9; 65]].concat();
+    settled(state, args, party.share_byte())
+}
+
+/// The same for the unlock of any byte, without a preimage.
+pub fn settled(state: &State, args: &LockArgs, byte: u8) -> (Vec<u8>, LockArgs) {
+    let on_chain = [&CHAIN_PREFIX[..], &[1], state.as_bytes(), &[byte, 0], &[9; 65]].concat();
     let mut bytes = args.as_bytes().to_vec();
     let left = Witness::from_chain(&on_chain, args).expect("a witness").left().hash();
     bytes[36..56].copy_from_slice(&left);
     bytes[56] = 1;
     (on_chain, LockArgs::parse(&bytes).expect("args"))
+}
+
+/// Asks, and holds the output unchanged where there is no unlock.
+pub fn asked(request: &Request) -> Result<Cause, Refusal> {
+    let mut out = vec![0x55; request.output_length()];
+    let told = match choose(request, &mut out) {
+        Ok(Outcome::Wait(cause)) => Ok(cause),
+        Ok(Outcome::Unlock(chosen)) => panic!("an unlock: {chosen:?}"),
+        Err(refusal) => Err(refusal),
+    };
+    assert!(out.iter().all(|byte| *byte == 0x55));
+    told
 }
 
 pub fn unlocked<'a, 'o>(answer: Result<Outcome<'a, 'o>, Refusal>) -> Chosen<'a, 'o> {
@@ -275,7 +292,8 @@ fn a_later_settlement_up_to_the_last() {
             let later =
                 Request { args: &args, tracked: &tracked, witness: Some(&witness), ..cell.request(5_000, 2) };
             let mut out = vec![0; later.output_length()];
-            assert_eq!(choose(&later, &mut out), Ok(Outcome::Wait(Cause::NothingQualifies)));
+            // The one that we offered stands first now, and its record expires at 5,000.
+            assert_eq!(choose(&later, &mut out), Ok(Outcome::Wait(Cause::ExpiryNotPassed { tlc: 0 })));
 
             // Ours by timeout, once the record's expiry is passed, which is in whole seconds.
             let later = Request { time: at(5_001), ..later };
@@ -314,7 +332,7 @@ fn after_our_share_no_tlc_is_taken() {
                 Cell::of(hash_length, commitment, list.to_vec(), Cell::new(hash_length, commitment).balances);
             let mut out = vec![0; cell.request(0, 6).output_length()];
             let unknown = Request { preimages: &[], ..cell.request(5_999, 6) };
-            assert_eq!(choose(&unknown, &mut out), Ok(Outcome::Wait(Cause::NothingQualifies)));
+            assert_eq!(choose(&unknown, &mut out), Ok(Outcome::Wait(Cause::NoPreimage { tlc: 0 })));
             let chosen = unlocked(choose(&Request { time: at(6_000), ..unknown }, &mut out));
             assert_eq!((chosen.unlocks, chosen.is_last()), (Unlocked::OurShare, false));
             // Nothing in this transaction carries the time: a clock that is ahead is not turned down.

@@ -1,23 +1,11 @@
 //! What a host can get wrong, and what it is told.
 
-use super::cells::{share_paid, unlocked, Cell, COMMITMENTS, LENGTHS, PREIMAGE, START_MS};
+use super::cells::{asked, share_paid, unlocked, Cell, COMMITMENTS, LENGTHS, PREIMAGE, START_MS};
 use crate::c;
 use crate::choose::Fields;
 use crate::layout as l;
 use crate::preimage::flat;
 use crate::*;
-
-/// Asks, and holds the output unchanged where there is no unlock.
-fn asked(request: &Request) -> Result<Cause, Refusal> {
-    let mut out = vec![0x55; request.output_length()];
-    let told = match choose(request, &mut out) {
-        Ok(Outcome::Wait(cause)) => Ok(cause),
-        Ok(Outcome::Unlock(chosen)) => panic!("an unlock: {chosen:?}"),
-        Err(refusal) => Err(refusal),
-    };
-    assert!(out.iter().all(|byte| *byte == 0x55));
-    told
-}
 
 /// The cell's list with every direction turned.
 fn turned(cell: &Cell) -> SettlementTlcs {
@@ -109,9 +97,11 @@ fn amounts_and_keys_of_the_wrong_side() {
     let tracked = cell.tracked.after(&witness).expect("the list goes on");
     let later = Request { args: &args, tracked: &tracked, witness: Some(&witness), ..cell.request(0, 2) };
     assert_eq!(asked(&Request { balances: &keys, ..later }), Err(Refusal::KeysDiffer));
-    assert_eq!(asked(&Request { balances: &amounts, ..later }), Ok(Cause::NothingQualifies));
+    // The TLC that we offered stands first, and has not expired.
+    let waits = Ok(Cause::ExpiryNotPassed { tlc: 0 });
+    assert_eq!(asked(&Request { balances: &amounts, ..later }), waits);
     let (cell_epoch, tip_epoch) = (later.tip_epoch, Epoch::new(10, 0, 0).expect("an epoch"));
-    assert_eq!(asked(&Request { cell_epoch, tip_epoch, ..later }), Ok(Cause::NothingQualifies));
+    assert_eq!(asked(&Request { cell_epoch, tip_epoch, ..later }), waits);
 }
 
 /// Keys that are not those of the slots. Where a slot has zeros its key is not in the cell any more.
@@ -188,7 +178,7 @@ fn first_and_later() {
     let witness = Witness::from_chain(&on_chain, &args).expect("a witness");
     let tracked = cell.tracked.after(&witness).expect("the list goes on");
     let later = Request { args: &args, tracked: &tracked, witness: Some(&witness), ..cell.request(0, 2) };
-    assert_eq!(asked(&later), Ok(Cause::NothingQualifies));
+    assert_eq!(asked(&later), Ok(Cause::ExpiryNotPassed { tlc: 0 }));
     assert_eq!(asked(&Request { witness: None, ..later }), Err(Refusal::WitnessMissing));
     assert_eq!(asked(&Request { args: &cell.args, ..later }), Err(Refusal::WitnessOfFirst));
     // The list of the cell before, and in the first settlement that of the cell behind.
@@ -225,10 +215,11 @@ fn a_tracked_list_of_another_cell() {
         let args = LockArgs::parse(&bytes).expect("args");
         let later = Request { args: &args, witness: Some(&witness), preimages: &[], ..cell.request(0, 2) };
         assert_eq!(asked(&later), Err(Refusal::TrackedDiffers { place: 2 }));
-        assert_eq!(asked(&Request { tracked: &left, ..later }), Ok(Cause::NothingQualifies));
+        // They offered the first one: it has not expired, and in the first settlement the delay is not over.
+        assert_eq!(asked(&Request { tracked: &left, ..later }), Ok(Cause::NoPreimage { tlc: 0 }));
         let first = Request { preimages: &[], ..cell.request(0, 2) };
         assert_eq!(asked(&Request { tracked: &left, ..first }), Err(Refusal::TrackedDiffers { place: 2 }));
-        assert_eq!(asked(&first), Ok(Cause::NothingQualifies));
+        assert_eq!(asked(&first), Ok(Cause::NoPreimage { tlc: 0 }));
     }
 }
 
@@ -238,8 +229,8 @@ fn epochs_that_are_swapped() {
     let right = cell.request(0, 2);
     let (cell_epoch, tip_epoch) = (right.tip_epoch, right.cell_epoch);
     assert_eq!(asked(&Request { cell_epoch, tip_epoch, ..right }), Err(Refusal::CellAfterTip));
-    // The cell may be in the tip. A length of 0 is told by its own number.
-    assert_eq!(asked(&cell.request(0, 0)), Ok(Cause::NothingQualifies));
+    // The cell may be in the tip: no third of the delay is due. A length of 0 is told by its own number.
+    assert_eq!(asked(&cell.request(0, 0)), Ok(Cause::DelayOrExpiry { tlc: 0 }));
     let none = Epoch::new(10, 0, 0).expect("an epoch");
     assert_eq!(asked(&Request { cell_epoch: none, ..right }), Err(Refusal::LengthZero));
     assert_eq!(asked(&Request { tip_epoch: none, ..right }), Err(Refusal::LengthZero));
@@ -350,8 +341,11 @@ fn a_delay_is_what_the_library_takes_for_one() {
         match args.delay() {
             Err(refusal) => assert_eq!(told, Err(refusal), "{since:#x}"),
             Ok(delay) => {
-                let expected =
-                    if delay.length() == 0 { Err(Refusal::LengthZero) } else { Ok(Cause::NothingQualifies) };
+                // The first TLC has its preimage, and its third of the delay is not due.
+                let expected = match delay.length() {
+                    0 => Err(Refusal::LengthZero),
+                    _ => Ok(Cause::DelayOrExpiry { tlc: 0 }),
+                };
                 assert_eq!(told, expected, "{since:#x}");
                 assert_eq!(Epoch::from_header_epoch(delay.to_header_epoch()), Ok(delay));
                 assert_eq!(Epoch::from_since(delay.to_since()), Ok(delay));
@@ -488,7 +482,10 @@ fn pairs_are_lent_as_they_lie() {
         (Ok(false), Ok(true))
     );
     let preimages = [wrong, cell.preimages[0]];
-    assert_eq!(asked(&Request { preimages: &preimages, ..cell.request(0, 2) }), Ok(Cause::NothingQualifies));
+    assert_eq!(
+        asked(&Request { preimages: &preimages, ..cell.request(0, 2) }),
+        Ok(Cause::NoPreimage { tlc: 0 })
+    );
     let preimages = [cell.preimages[0], wrong];
     let request = Request { preimages: &preimages, ..cell.request(0, 2) };
     assert_eq!(unlocked(choose(&request, &mut vec![0; request.output_length()])).amount, 10);

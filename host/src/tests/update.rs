@@ -142,7 +142,7 @@ fn what_no_request_can_hold_is_turned_down() {
     };
     let first = |first: c::FirstState<'static>| told(c::Choose { first, ..WAITS });
     let bad = (l::NOT_WELL, 0);
-    assert_eq!(told(WAITS), (l::NOTHING_QUALIFIES, 0));
+    assert_eq!(told(WAITS), (l::DELAY_NOT_DUE, 0));
     assert_eq!(first(c::FirstState { h: 21, ..WAITS.first }), bad);
     assert_eq!(first(c::FirstState { for_remote: 2, ..WAITS.first }), bad);
     assert_eq!(first(c::FirstState { local_key: &[2; 32], ..WAITS.first }), bad);

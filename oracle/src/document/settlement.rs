@@ -24,7 +24,13 @@ pub const NOT_WHOLE: Row = row(14, "list not whole entries", InRust::Outside);
 pub const ABOVE_1: Row = row(14, "received or algorithm above 1", InRust::Outside);
 pub const LIST_DIFFERS: Row = row(20, "tracked list differs", InRust::Waits);
 pub const NOT_OUR_SHARE: Row = row(21, "our share isn't there", InRust::Waits);
-pub const NOTHING: Row = row(22, "nothing qualifies", InRust::Waits);
+pub const DELAY_NOT_DUE: Row = row(22, "no TLCs in a first settlement, the delay isn't due", InRust::Waits);
+pub const NO_EXPIRY: Row = row(23, "no absolute timestamp expiry", InRust::Waits);
+pub const NO_KEY: Row = row(23, "no key", InRust::Waits);
+pub const PART_NOT_DUE: Row = row(24, "its part of the delay isn't due", InRust::Waits);
+pub const NOT_PASSED: Row = row(24, "timeout kind, its expiry isn't passed", InRust::Waits);
+pub const NO_PREIMAGE: Row = row(25, "no counting preimage, its expiry isn't passed", InRust::Waits);
+pub const NO_PREIMAGE_YET: Row = row(25, "no counting preimage, the full delay isn't due", InRust::Waits);
 
 type Answer<V> = Result<V, (Row, Place)>;
 
@@ -391,13 +397,13 @@ impl Chosen {
 }
 
 /// What is decided: our share, or a TLC of the state with its settlement TLC, by a preimage or by timeout.
-enum Decision {
+pub enum Decision {
     Share,
     Tlc { place: usize, key: usize, preimage: Option<Preimage>, delay: Option<Epoch> },
 }
 
 /// A preimage that counts, and the place of its pair.
-struct Preimage {
+pub struct Preimage {
     pair: usize,
     bytes: Vec<u8>,
 }
@@ -420,82 +426,156 @@ fn counting_preimage(preimages: &[u8], tracked: &Tracked) -> Option<Preimage> {
     (digest == tracked.hash).then(|| Preimage { pair, bytes: preimage.to_vec() })
 }
 
+/// A TLC of timeout kind wants none.
+fn preimage_wanted(timeout_kind: bool, request: &Request, tracked: &Tracked) -> Option<Preimage> {
+    if timeout_kind {
+        return None;
+    }
+    counting_preimage(&request.preimages, tracked)
+}
+
 /// "Offered with for_remote, received without."
 fn timeout_kind(offered: bool, for_remote: bool) -> bool {
     offered == for_remote
 }
 
+/// One TLC of the walk.
+pub struct Walked {
+    pub timeout_kind: bool,
+    pub fate: Fate,
+}
+
+/// What becomes of a TLC, whatever becomes of the others.
+pub enum Fate {
+    Chosen(Decision),
+    /// Pending falls for it.
+    Fell,
+    /// It is still pending, for all of these causes, in the order in which one of them is given.
+    Pending(Vec<Row>),
+}
+
+/// Document 01 says when a TLC is chosen and when pending falls, and change request W1 which causes there are to wait for
+/// it. Each is written from its own words: a TLC has to be pending exactly where a cause fits.
+fn fate(chosen: Option<Decision>, falls: bool, causes: &[(Row, bool)]) -> Fate {
+    let fitting: Vec<Row> = causes.iter().filter(|(_, fits)| *fits).map(|(row, _)| *row).collect();
+    let pending = chosen.is_none() && !falls;
+    assert_eq!(pending, !fitting.is_empty(), "a TLC is pending exactly where a cause fits");
+    match chosen {
+        Some(decision) => Fate::Chosen(decision),
+        None if falls => Fate::Fell,
+        None => Fate::Pending(fitting),
+    }
+}
+
+/// "The walk ends at the first chosen. None chosen and pending 0: our share", which in a first settlement wants the full
+/// delay due. Else "the place and cause of the first TLC still pending".
+fn decided(walked: Vec<Walked>, share_due: bool) -> Answer<Decision> {
+    let (mut chosen, mut pending) = (vec![], vec![]);
+    for (place, tlc) in walked.into_iter().enumerate() {
+        match tlc.fate {
+            Fate::Chosen(decision) => chosen.push(decision),
+            Fate::Fell => {}
+            Fate::Pending(causes) => pending.push((causes[0], place as Place)),
+        }
+    }
+    if let Some(first) = chosen.into_iter().next() {
+        return Ok(first);
+    }
+    if let Some(first) = pending.into_iter().next() {
+        return Err(first);
+    }
+    // Where pending fell for a TLC the full delay is due: it isn't only where there is no TLC.
+    unless(share_due, DELAY_NOT_DUE)?;
+    Ok(Decision::Share)
+}
+
 fn later(request: &Request, state: &State) -> Answer<Decision> {
-    let h = request.h as usize;
     unless(state.tlcs.len() <= 254, ABOVE_254)?;
-    let tracked = request.tracked();
-    unless(state.tlcs.iter().eq(tracked.iter().map(|t| t.record)), LIST_DIFFERS)?;
+    unless(state.tlcs.iter().eq(request.tracked().iter().map(|t| t.record)), LIST_DIFFERS)?;
     let (ours, other) =
         if request.for_remote { (&state.local, &state.remote) } else { (&state.remote, &state.local) };
     unless(ours.key == hash_of_key(&request.data.local_key), NOT_OUR_SHARE)?;
     if other.key.iter().all(|byte| *byte == 0) {
         return Ok(Decision::Share);
     }
+    decided(later_walk(request, state), true)
+}
+
+fn later_walk(request: &Request, state: &State) -> Vec<Walked> {
+    let h = request.h as usize;
+    let tracked = request.tracked();
     let settlement: Vec<(&[u8], Vec<u8>)> =
         request.data.list().iter().map(|tlc| (tlc.hash, hash_of_key(tlc.local))).collect();
-    let mut pending = state.tlcs.len();
-    for (place, bytes) in state.tlcs.iter().enumerate() {
+    let walked = |(place, bytes): (usize, &Vec<u8>)| {
         let tlc = record(h, bytes);
-        let Document::Value(Some(expiry)) = absolute_expiry(tlc.expiry) else {
-            continue;
-        };
+        let timeout_kind = timeout_kind(tlc.offered, request.for_remote);
+        let Document::Value(expiry) = absolute_expiry(tlc.expiry) else { unreachable!("no row") };
+        let passed = expiry.is_some_and(|expiry| request.time > expiry);
         let our_hash = if request.for_remote { tlc.local } else { tlc.remote };
         let key = settlement.iter().position(|(hash, key)| hash[..h] == *tlc.hash && key == our_hash);
-        let Some(key) = key else {
-            continue;
-        };
-        let expired = request.time > expiry;
-        if timeout_kind(tlc.offered, request.for_remote) {
-            if expired {
-                return Ok(Decision::Tlc { place, key, preimage: None, delay: None });
-            }
-        } else if let Some(preimage) = counting_preimage(&request.preimages, &tracked[place]) {
-            return Ok(Decision::Tlc { place, key, preimage: Some(preimage), delay: None });
-        } else if expired {
-            pending -= 1;
-        }
-    }
-    unless(pending == 0, NOTHING)?;
-    Ok(Decision::Share)
+        let preimage = preimage_wanted(timeout_kind, request, &tracked[place]);
+
+        let without = !timeout_kind && preimage.is_none();
+        let causes = [
+            (NO_EXPIRY, expiry.is_none()),
+            (NO_KEY, key.is_none()),
+            (NOT_PASSED, timeout_kind && !passed),
+            (NO_PREIMAGE, without && !passed),
+        ];
+        let key = expiry.and(key);
+        let falls = key.is_some() && without && passed;
+        let chosen = key.filter(|_| if timeout_kind { passed } else { preimage.is_some() });
+        let chosen = chosen.map(|key| Decision::Tlc { place, key, preimage, delay: None });
+        Walked { timeout_kind, fate: fate(chosen, falls, &causes) }
+    };
+    state.tlcs.iter().enumerate().map(walked).collect()
 }
 
 fn first_choice(request: &Request, state: &State, full: Epoch) -> Answer<Decision> {
+    unless(state.tlcs.iter().eq(request.tracked().iter().map(|t| t.record)), LIST_DIFFERS)?;
+    decided(first_walk(request, full)?, due(request, full))
+}
+
+fn due(request: &Request, delay: Epoch) -> bool {
+    is_due(request.header, delay, request.current) == Document::Value(true)
+}
+
+fn first_walk(request: &Request, full: Epoch) -> Answer<Vec<Walked>> {
     let tracked = request.tracked();
-    unless(state.tlcs.iter().eq(tracked.iter().map(|t| t.record)), LIST_DIFFERS)?;
     let scaled = |numerator| match mul(full, numerator, 3) {
         Document::Value(delay) => Ok(delay),
         Document::Row(row, place) => Err((row, place)),
     };
-    let due = |delay| is_due(request.header, delay, request.current) == Document::Value(true);
-    let full_due = due(full);
-    let mut pending = state.tlcs.len();
-    for (place, tlc) in request.data.list().iter().enumerate() {
-        let expired = request.time > tlc.expiry;
-        if timeout_kind(tlc.received == 0, request.for_remote) {
-            let delay = scaled(2)?;
-            if due(delay) && expired {
-                return Ok(Decision::Tlc { place, key: place, preimage: None, delay: Some(delay) });
-            }
-            continue;
-        }
-        let delay = scaled(1)?;
-        if !due(delay) {
-            continue;
-        }
-        if let Some(preimage) = counting_preimage(&request.preimages, &tracked[place]) {
-            return Ok(Decision::Tlc { place, key: place, preimage: Some(preimage), delay: Some(delay) });
-        }
-        if full_due && expired {
-            pending -= 1;
-        }
-    }
-    unless(pending == 0 && full_due, NOTHING)?;
-    Ok(Decision::Share)
+    let full_due = due(request, full);
+    let walked = |(place, tlc): (usize, &Tlc)| {
+        let timeout_kind = timeout_kind(tlc.received == 0, request.for_remote);
+        let delay = scaled(if timeout_kind { 2 } else { 1 })?;
+        let part_due = due(request, delay);
+        let passed = request.time > tlc.expiry;
+        let preimage = preimage_wanted(timeout_kind, request, &tracked[place]);
+
+        let without = !timeout_kind && preimage.is_none();
+        let causes = [
+            (PART_NOT_DUE, !part_due),
+            (NOT_PASSED, timeout_kind && !passed),
+            (NO_PREIMAGE, without && !passed),
+            (NO_PREIMAGE_YET, without && part_due && !full_due),
+        ];
+        let falls = part_due && without && full_due && passed;
+        let chosen = part_due && if timeout_kind { passed } else { preimage.is_some() };
+        let chosen = chosen.then_some(Decision::Tlc { place, key: place, preimage, delay: Some(delay) });
+        Ok(Walked { timeout_kind, fate: fate(chosen, falls, &causes) })
+    };
+    request.data.list().iter().enumerate().map(walked).collect()
+}
+
+/// The walk behind a wait of 22 to 25: every TLC that it walked, of which none was chosen.
+pub fn walk(request: &Request) -> Vec<Walked> {
+    let walked = || match &request.witness {
+        Some(witness) => Ok(later_walk(request, &updated(parts(request.h as usize, witness)?)?)),
+        None => first_walk(request, delay_of(&request.args)?),
+    };
+    walked().unwrap_or_else(|(row, _): (Row, Place)| unreachable!("no wait of the walk: {}", row.cause))
 }
 
 fn handed_out(request: &Request, state: State, decision: Decision, full: Epoch) -> Chosen {

@@ -1,10 +1,11 @@
 //! `choice`: what is unlocked next, in a first and in a later settlement. Document 01, module 8 and "The choice".
 
 use super::first::case;
-use super::settlement::{consistent, data_of, disturb, since_of, Tlc, AMPLE, TLC};
+use super::settlement::{consistent, data_of, disturb, since_of, waiting, Tlc, AMPLE, TLC};
+use super::waits::{self, Waits};
 use super::{epoch, hex, Kind};
 use crate::document::settlement::{self, Chosen, Request};
-use crate::document::{Document, Epoch};
+use crate::document::{Document, Epoch, Row};
 use crate::port::{self, halves, Called};
 use crate::random::Random;
 use crate::reference::calls::{self, Rust};
@@ -60,6 +61,29 @@ fn tlc(received: bool, algorithm: u8, expiry: u64, tag: u8) -> Tlc {
         remote: [20 + tag; 33],
     }
 }
+
+/// Every second one is disturbed in one thing.
+fn disturbed(random: &mut Random, mut request: Request) -> Request {
+    if random.one_in(2) {
+        disturb(random, &mut request);
+    }
+    // Room for every answer, and not much more: every byte of it is looked at.
+    let state = request.witness.as_ref().map_or(73 + request.data.tlcs.len() / TLC * 97, Vec::len);
+    let room = 99 + state + request.args.len().max(57) + random.below(100) as usize;
+    request.output = room.min(AMPLE);
+    if random.one_in(12) {
+        if let Document::Value(chosen) = settlement::choice(&request) {
+            request.output = match random.below(4) {
+                0 => random.below(chosen.output() as u64) as usize,
+                _ => random.near(chosen.output() as u64) as usize,
+            };
+        }
+    }
+    request
+}
+
+/// How many cases of the grid are about the args.
+const ARGS: u64 = 2 * 2 * (61 + 256);
 
 impl Kind for Choice {
     type Input = Request;
@@ -123,12 +147,15 @@ impl Kind for Choice {
         edges
     }
 
-    /// Every length of the args, and every byte that tells their since value's kind.
+    /// Every length of the args, and every byte that tells their since value's kind; then those made for waits.
     fn grid_size() -> u64 {
-        2 * 2 * (61 + 256)
+        ARGS + waits::CASES
     }
 
     fn grid(place: u64) -> Request {
+        if place >= ARGS {
+            return waits::case(place - ARGS);
+        }
         let mut next = super::digits(place);
         let (for_remote, is_later, what) = (next(2) == 1, next(2) == 1, next(61 + 256));
         let mut request = plain(for_remote, &[tlc(!for_remote, 0, 0, 1)], epoch(13, 0, 1));
@@ -143,21 +170,11 @@ impl Kind for Choice {
     }
 
     fn random(random: &mut Random) -> Request {
-        let mut request = consistent(random);
-        if random.one_in(2) {
-            disturb(random, &mut request);
-        }
-        // Room for every answer, and not much more: every byte of it is looked at.
-        let state = request.witness.as_ref().map_or(73 + request.data.tlcs.len() / TLC * 97, Vec::len);
-        let room = 99 + state + request.args.len().max(57) + random.below(100) as usize;
-        request.output = room.min(AMPLE);
-        if random.one_in(12) {
-            if let Document::Value(chosen) = settlement::choice(&request) {
-                request.output = match random.below(4) {
-                    0 => random.below(chosen.output() as u64) as usize,
-                    _ => random.near(chosen.output() as u64) as usize,
-                };
-            }
+        let whole = if random.one_in(4) { waiting(random) } else { consistent(random) };
+        let mut request = disturbed(random, whole);
+        // What is turned down or waits does so with a short output too.
+        if random.one_in(32) {
+            request.output = random.below(100) as usize;
         }
         request
     }
@@ -170,11 +187,28 @@ impl Kind for Choice {
 
     fn random_for_dump(random: &mut Random) -> Request {
         loop {
-            let request = Self::random(random);
+            let whole = consistent(random);
+            let request = disturbed(random, whole);
             if is_short(&request) {
                 return request;
             }
         }
+    }
+
+    /// Waits of the walk, until each combination that can occur was met.
+    fn picked_for_dump() -> Vec<Request> {
+        let no_tlcs = [true, false].map(|for_remote| plain(for_remote, &[], epoch(12, 999, 1000)));
+        let no_tlcs = no_tlcs.into_iter().map(|request| Request { output: 1000, ..request });
+        let cases = no_tlcs.chain((0..waits::CASES).map(waits::case)).filter(can_be_replayed);
+        let mut waits = Waits::default();
+        let is_new = |request: &Request| {
+            let before = waits.met.len();
+            if let Document::Row(row, _) = settlement::choice(request) {
+                waits.count(request, &row);
+            }
+            waits.met.len() > before
+        };
+        cases.filter(is_new).collect()
     }
 
     fn document(request: &Request) -> Document<Chosen> {
@@ -201,7 +235,7 @@ impl Kind for Choice {
                     last: c.last,
                 })
             }
-            calls::Choice::Wait(number) => Rust::Wait(number.into()),
+            calls::Choice::Wait(wait) => Rust::Wait(wait),
             calls::Choice::Unread | calls::Choice::Error(_) => Rust::TurnedDown,
             // Its way to turn down args that are too short to hold a since value.
             calls::Choice::Panic if request.args.len() < 28 => Rust::TurnedDown,
@@ -233,6 +267,10 @@ impl Kind for Choice {
             (true, false, 0) => "later, TLC by timeout",
             (true, false, _) => "later, TLC by preimage",
         }
+    }
+
+    fn count_wait(request: &Request, row: &Row, waits: &mut Waits) {
+        waits.count(request, row);
     }
 
     fn dump_output(request: &Request) -> usize {
@@ -284,6 +322,15 @@ impl Kind for Choice {
             hex(&[&chosen.unlock[..], &chosen.state, &chosen.new_args].concat())
         )
     }
+}
+
+/// All that is lent fits what the program `replay` has room for.
+fn can_be_replayed(request: &Request) -> bool {
+    let data = &request.data;
+    let lists =
+        [&request.args, &data.tlcs, &data.local_key, &data.remote_key, &request.tracked, &request.preimages];
+    let lists = lists.into_iter().chain(&request.witness);
+    lists.map(|list| list.len()).sum::<usize>() <= 1792
 }
 
 /// Short enough for the dump.

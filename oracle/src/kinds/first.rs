@@ -140,7 +140,7 @@ impl Kind for First {
             h = other_h(random, h);
         }
         let time = generator::some_time(random);
-        let mood = Mood { for_remote: random.one_in(2), time, share: false };
+        let mood = Mood { for_remote: random.one_in(2), time, share: false, front: 0 };
         let count = match random.below(500) {
             0 => random.pick(&[253, 254, 255, 256, 257, 300]),
             _ => usize::from(some_count(random)),
@@ -306,7 +306,8 @@ impl Kind for Record {
         if random.one_in(60) {
             h = other_h(random, h);
         }
-        let mood = Mood { for_remote: random.one_in(2), time: generator::some_time(random), share: false };
+        let mood =
+            Mood { for_remote: random.one_in(2), time: generator::some_time(random), share: false, front: 0 };
         let mut tlc = data_of(&some_tlcs(random, mood, 1), [4; 33], [5; 33]).tlcs;
         match random.below(20) {
             0 => tlc.resize(random.pick(&[0, 1, 123, 125, 248]), 0),

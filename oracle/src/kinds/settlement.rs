@@ -109,17 +109,20 @@ pub struct Mood {
     pub time: u64,
     /// All of preimage kind and expired, so that our share remains.
     pub share: bool,
+    /// So many in front are of preimage kind and expired, and have no preimage that counts: pending falls for them.
+    pub front: usize,
 }
 
 pub fn some_tlcs(random: &mut Random, mood: Mood, count: usize) -> Vec<Tlc> {
     let mut tlcs: Vec<Tlc> = vec![];
-    for _ in 0..count {
+    for place in 0..count {
+        let falls = mood.share || place < mood.front;
         let mut tlc = Tlc {
-            received: if mood.share { mood.for_remote } else { random.one_in(2) },
+            received: if falls { mood.for_remote } else { random.one_in(2) },
             algorithm: random.below(2) as u8,
             amount: amount(random),
             preimage: bytes(random),
-            expiry: some_expiry(random, mood.time, mood.share),
+            expiry: some_expiry(random, mood.time, falls),
             local: bytes(random),
             remote: bytes(random),
         };
@@ -163,8 +166,12 @@ fn tracked_list<'a>(entries: impl Iterator<Item = (&'a Tlc, &'a [u8])>) -> Vec<u
 fn some_preimages(random: &mut Random, mood: Mood, tlcs: &[Tlc]) -> Vec<u8> {
     let mut pairs = vec![];
     let most = if mood.share { 12 } else { 3 };
-    for tlc in tlcs {
+    for (place, tlc) in tlcs.iter().enumerate() {
         let (hash, other): ([u8; 32], [u8; 32]) = (tlc.hash(), bytes(random));
+        if place < mood.front {
+            pairs.extend(random.one_in(8).then_some([hash, other]));
+            continue;
+        }
         match random.below(most + 3) {
             0 => pairs.push([hash, tlc.preimage]),
             1 => pairs.extend([[hash, other], [hash, tlc.preimage]]),
@@ -244,11 +251,25 @@ fn some_epochs(random: &mut Random) -> (Epoch, Epoch, Epoch) {
 /// A whole case: settlement data, tracked list, preimages, and in a later settlement a witness.
 pub fn consistent(random: &mut Random) -> Request {
     let h = random.pick(&[20, 32]);
-    let mood = Mood { for_remote: random.one_in(2), time: some_time(random), share: random.one_in(4) };
+    let mood =
+        Mood { for_remote: random.one_in(2), time: some_time(random), share: random.one_in(4), front: 0 };
     let mut count = usize::from(some_count(random));
     if count == 255 && random.one_in(2) {
         count += random.below(3) as usize;
     }
+    of_mood(random, h, mood, count)
+}
+
+/// The same with TLCs in front for which pending falls, mostly, and few behind them: a wait above place 0 is near.
+pub fn waiting(random: &mut Random) -> Request {
+    let h = random.pick(&[20, 32]);
+    let count = usize::from(some_count(random)).min(254);
+    let front = count.saturating_sub(1 + random.below(3) as usize);
+    let mood = Mood { for_remote: random.one_in(2), time: some_time(random), share: false, front };
+    of_mood(random, h, mood, count)
+}
+
+fn of_mood(random: &mut Random, h: u64, mood: Mood, count: usize) -> Request {
     let tlcs = some_tlcs(random, mood, count);
     let data = some_data(random, &tlcs);
     let (header, delay, current) = some_epochs(random);

@@ -3,6 +3,7 @@
 
 use super::*;
 use crate::document::Epoch;
+use std::fmt;
 use std::panic::{catch_unwind, AssertUnwindSafe};
 
 /// What the Rust says.
@@ -11,11 +12,41 @@ pub enum Rust<V> {
     Value(V),
     /// `None`, `Err` or `false`: the Rust gives no number and no place.
     TurnedDown,
-    /// Nothing to do yet: 20, 21 or 22.
-    Wait(u64),
+    /// Nothing to do yet.
+    Wait(Wait),
     Panicked(String),
     /// The text handed a stand-in what no document at hand speaks about. What the Rust does is not shown.
     NotModelled(NotModelled),
+}
+
+/// Where the Rust waits. It says `Ok(None)` each time and gives no number and no place: marks that only the shims leave
+/// tell these three apart, and nothing of it tells what the walk waits for.
+#[derive(Debug, Clone, Copy, PartialEq, Eq)]
+pub enum Wait {
+    ListDiffers,
+    NotOurShare,
+    Walk,
+}
+
+impl Wait {
+    /// Is this document 01's number for it?
+    pub fn is(self, number: u64) -> bool {
+        match self {
+            Wait::ListDiffers => number == 20,
+            Wait::NotOurShare => number == 21,
+            Wait::Walk => (22..=25).contains(&number),
+        }
+    }
+}
+
+impl fmt::Display for Wait {
+    fn fmt(&self, f: &mut fmt::Formatter<'_>) -> fmt::Result {
+        f.write_str(match self {
+            Wait::ListDiffers => "waits (20)",
+            Wait::NotOurShare => "waits (21)",
+            Wait::Walk => "waits in the walk (22 to 25)",
+        })
+    }
 }
 
 pub fn caught<V>(call: impl FnOnce() -> Rust<V>) -> Rust<V> {
@@ -226,8 +257,7 @@ pub struct Chosen {
 pub enum Choice {
     Unread,
     Chosen(Chosen),
-    /// 20, 21 or 22, told apart by marks that only the shims leave.
-    Wait(u8),
+    Wait(Wait),
     Error(String),
     Panic,
     NotModelled(NotModelled),
@@ -375,7 +405,7 @@ fn built(
             Err(_) => Choice::Panic,
         },
         Ok(Err(error)) => Choice::Error(error.to_string()),
-        Ok(Ok(None)) => Choice::Wait(wait_number(is_later)),
+        Ok(Ok(None)) => Choice::Wait(wait(is_later)),
         Ok(Ok(Some(t))) => Choice::Chosen(Chosen {
             unlock: t.unlock,
             state: t.state,
@@ -427,14 +457,14 @@ impl Prepared {
 
 /// One `Since` is made for the args and one for each TLC walked in a later settlement. A later settlement that gets
 /// to the walk and waits has at least one TLC.
-fn wait_number(is_later: bool) -> u8 {
+fn wait(is_later: bool) -> Wait {
     let marks = MARKS.with(|m| m.get());
     if marks.list_differs {
-        20
+        Wait::ListDiffers
     } else if is_later && marks.sinces == 1 {
-        21
+        Wait::NotOurShare
     } else {
-        22
+        Wait::Walk
     }
 }
 

@@ -3,7 +3,7 @@
 use mathlib.Core.Path.{sym, _∙_}
 use mathlib.Core.Bool.{true, false}
 use native.Mathlib.Omega.{arith}
-use Rattle.fiber_choice.specs.Walk.{noKey}
+use Rattle.fiber_choice.specs.declared.kinds.Cause.the-variants as cause·
 use Rattle.fiber_choice.proofs.PreimagesLaws.{pair-of, pair-bytes, counting-none, counting-at}
 use Rattle.fiber_choice.proofs.VerdictsLaws.{step-as, step-passed, preimage-early, falls-behind, key-of-record, key-missing, key-ready, key-falls}
 use borrow.Author.Needs.{needs}
@@ -51,7 +51,7 @@ returns-4 c =
     let k = c .before .before in
     let b = k .before .before .before .before in
     let s = b .before .before .before .before .before .before in
-    step-as _ _ _ _ _ _ (step-passed _ _ _ noKey)
+    step-as _ _ _ _ _ _ (step-passed _ _ _ cause·.NoKey)
     (key-missing _ _ _ _ (key-of-record _ _ _ (s .args .tracked-tlc .now) _ _ _ (s .pre .1 .0) (b .before .before .part-of .ensures) (k .key-of .ensures) (c .enum-told .given .1)))
 
 returns-5 : tie.Need-returns-5
@@ -69,7 +69,7 @@ returns-6 c =
     let k = c .before .before in
     let b = k .before .before .before .before in
     let s = b .before .before .before .before .before .before in
-    step-as _ _ _ _ _ _ (step-passed _ _ _ noKey)
+    step-as _ _ _ _ _ _ (step-passed _ _ _ cause·.NoKey)
     (key-missing _ _ _ _ (key-of-record _ _ _ (s .args .tracked-tlc .now) _ _ _ (s .pre .1 .0) (b .before .before .part-of .ensures) (k .key-of2 .ensures) (c .enum-told4 .given .1)))
 
 pub later-preimage-spec : {M : Type 1} → statement M

@@ -3,7 +3,7 @@
 use mathlib.Core.Path.{_∙_}
 use mathlib.Core.Bool.{true, false}
 use Rattle.fiber_types.proofs.RecordsLaws.{whole-is, whole-never, hash-len-small}
-use Rattle.fiber_choice.specs.Walk.{noExpiry}
+use Rattle.fiber_choice.specs.declared.kinds.Cause.the-variants as cause·
 use Rattle.fiber_choice.specs.Entries.{entries, pairLen}
 use Rattle.fiber_choice.specs.Preimages.{countingPair}
 use Rattle.fiber_choice.proofs.VerdictsLaws.{record-of, read-there, step-as, step-passed, later-none, later-kind}
@@ -21,7 +21,7 @@ returns-2 : tie.Need-returns-2
 returns-2 c =
     let b = c .before .before .before .before .before .before .before in
     let s = b .before .before .before .before in
-    step-as _ _ _ _ _ _ (step-passed _ _ _ noExpiry)
+    step-as _ _ _ _ _ _ (step-passed _ _ _ cause·.NoExpiry)
     (later-none _ _ _ _ (s .args .tracked-tlc .now) _
     (whole-is (read-there (s .args .h) (s .args .tracked-tlc .now) _ (s .pre .0) (s .pre .1 .0) (b .part-of .ensures) _ (c .before .before .before .before .before .before .read .ensures)) _ (c .before .before .before .before .tlc .given .1))
     _ (c .before .before .absolute-expiry .ensures) (c .enum-told2 .given .1))

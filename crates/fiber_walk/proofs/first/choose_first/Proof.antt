@@ -24,7 +24,7 @@ returns c =
 returns-2 : tie.Need-returns-2
 returns-2 c =
     let a = c .before .before .before .before .before .before .before .before .before .before .before .args in
-    first-wait _ _ _ _ (c .before .before .before .first-ready .ensures (a .args .now) (a .local-key .now) (a .remote-key .now) (a .preimages .now)) _ (c .before .number2 .given .1)
+    first-wait _ _ _ _ (c .before .before .before .first-ready .ensures (a .args .now) (a .local-key .now) (a .remote-key .now) (a .preimages .now)) _ (c .before .wait .given .1)
 
 returns-3 : tie.Need-returns-3
 returns-3 c =

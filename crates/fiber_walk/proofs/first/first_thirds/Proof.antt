@@ -40,8 +40,8 @@ walked-requires c κs =
 
 returns-3 : tie.Need-returns-3
 returns-3 c =
-    thirds-nothing _ _ _ _ _ _ _ (c .before .before .before .before .before .before .before .before .before .before .before .mul .ensures) (c .before .before .before .before .before .before .before .before .before .third .given .1) (c .before .before .before .before .before .before .before .mul2 .ensures) (c .before .before .before .before .before .two-thirds .given .1)
-    _ (c .before .before .before .dues-by .ensures) _ (c .before .before .walked .ensures) _ (c .enum-told3 .given .1)
+    thirds-nothing _ _ _ _ _ _ _ (c .before .before .before .before .before .before .before .before .before .before .before .before .mul .ensures) (c .before .before .before .before .before .before .before .before .before .before .third .given .1) (c .before .before .before .before .before .before .before .before .mul2 .ensures) (c .before .before .before .before .before .before .two-thirds .given .1)
+    _ (c .before .before .before .before .dues-by .ensures) _ (c .before .before .before .walked .ensures) _ (c .before .wait .given .1)
 
 first-place-requires : tie.Need-first-place-requires
 first-place-requires c κs =
@@ -87,11 +87,11 @@ first-thirds-spec =
     walked-requires
     (λ c. search needs)
     (λ c. search needs)
-    returns-3
     (λ c κs. search needs)
     (λ c κs. search needs)
     (λ c κs. search needs)
     first-place-requires
     write-output-requires
+    returns-3
     (λ c. search needs)
     returns-4)

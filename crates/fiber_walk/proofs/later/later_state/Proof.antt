@@ -56,16 +56,16 @@ returns-2 c =
     state-wait _ _ _ _ _ _ _ _
     (by-flag _ _ _ _ (⊎-elim (λ x. inl (x .0 .taken, x .1)) (λ x. inr (x .0 .left, x .1)) (c .before .before .before .before .before .before .if1 .came)))
     (by-flag _ _ _ _ (⊎-elim (λ x. inl (x .0 .taken, x .1)) (λ x. inr (x .0 .left, x .1)) (c .before .before .before .before .before .if2 .came)))
-    _ (c .before .before .before .before .is-last .ensures) _ (c .before .before .before .later-ready .ensures (s .args .args .now) (s .args .tlcs .now) (s .args .remote-key .now) (s .args .preimages .now)) _ (c .before .number2 .given .1)
+    _ (c .before .before .before .before .is-last .ensures) _ (c .before .before .before .later-ready .ensures (s .args .args .now) (s .args .tlcs .now) (s .args .remote-key .now) (s .args .preimages .now)) _ (c .before .wait .given .1)
 
 returns-3 : tie.Need-returns-3
 returns-3 c =
-    let s = c .before .before .before .before .before .before .before .before .before .before .before .before .before .before .before .before .before in
+    let s = c .before .before .before .before .before .before .before .before .before .before .before .before .before .before .before .before .before .before in
     state-nothing _ _ _ _ _ _ _ _
-    (by-flag _ _ _ _ (⊎-elim (λ x. inl (x .0 .taken, x .1)) (λ x. inr (x .0 .left, x .1)) (c .before .before .before .before .before .before .before .before .if1 .came)))
-    (by-flag _ _ _ _ (⊎-elim (λ x. inl (x .0 .taken, x .1)) (λ x. inr (x .0 .left, x .1)) (c .before .before .before .before .before .before .before .if2 .came)))
-    _ (c .before .before .before .before .before .before .is-last .ensures) _ (c .before .before .before .before .before .later-ready .ensures (s .args .args .now) (s .args .tlcs .now) (s .args .remote-key .now) (s .args .preimages .now)) (c .before .before .before .enum-told .given .1)
-    _ (c .before .before .later-choice .ensures (s .args .args .now) (s .args .local-key .now) (s .args .remote-key .now)) _ (c .enum-told2 .given .1)
+    (by-flag _ _ _ _ (⊎-elim (λ x. inl (x .0 .taken, x .1)) (λ x. inr (x .0 .left, x .1)) (c .before .before .before .before .before .before .before .before .before .if1 .came)))
+    (by-flag _ _ _ _ (⊎-elim (λ x. inl (x .0 .taken, x .1)) (λ x. inr (x .0 .left, x .1)) (c .before .before .before .before .before .before .before .before .if2 .came)))
+    _ (c .before .before .before .before .before .before .before .is-last .ensures) _ (c .before .before .before .before .before .before .later-ready .ensures (s .args .args .now) (s .args .tlcs .now) (s .args .remote-key .now) (s .args .preimages .now)) (c .before .before .before .before .enum-told .given .1)
+    _ (c .before .before .before .later-choice .ensures (s .args .args .now) (s .args .local-key .now) (s .args .remote-key .now)) _ (c .before .wait2 .given .1)
 
 returns-4 : tie.Need-returns-4
 returns-4 c =

@@ -1,5 +1,4 @@
 -- By whether some are pending, and whether the share may be taken.
-use mathlib.Core.Path.{_∙_}
 use mathlib.Core.Logic.{⊎-elim}
 use Rattle.fiber_choice.proofs.WalkLaws.{share-taken, share-pending, share-early, share-behind}
 use borrow.Author.Needs.{needs}
@@ -7,7 +6,7 @@ use Rattle.fiber_walk.proofs.walk.or_share.Statement.{statement}
 use Rattle.fiber_walk.proofs.walk.or_share.Tie as tie
 
 returns : tie.Need-returns
-returns c = c .our-share .ensures ∙ share-taken _ _ _ _ (c .before .before .before .before .step .given .1) (c .before .before .if1 .taken) (c .before .if2 .taken)
+returns c = share-taken _ _ _ _ (c .our-side .ensures) _ (c .before .before .before .before .step .given .1) (c .before .before .if1 .taken) (c .before .if2 .taken)
 
 returns-2 : tie.Need-returns-2
 returns-2 c =

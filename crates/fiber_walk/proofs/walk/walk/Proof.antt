@@ -8,8 +8,8 @@ use Rattle.fiber_bytes.proofs.BytesLaws.{part-length}
 use Rattle.fiber_types.proofs.RecordsLaws.{hash-len-small}
 use Rattle.fiber_witness.proofs.UpdateLaws.{part-between}
 use Rattle.fiber_choice.specs.Entries.{entries, settlementLen, trackedLen, pairLen}
-use Rattle.fiber_choice.specs.Walk.{walk}
 use Rattle.fiber_choice.specs.Verdicts.{verdicts}
+use Rattle.fiber_choice.specs.inner.Noting.{noting}
 use Rattle.fiber_choice.proofs.EntriesLaws.{along-room, along-few, tracked-count}
 use Rattle.fiber_choice.proofs.WalkLaws.{Walking, walking-start, walking-end, walking-chosen, walking-on}
 use borrow.Author.Needs.{needs}
@@ -17,13 +17,13 @@ use Rattle.fiber_walk.proofs.walk.walk.Statement.{statement}
 use Rattle.fiber_walk.proofs.walk.walk.Tie as tie
 
 abbrev Inv-loop : tie.InvT-loop
-Inv-loop h for-remote time stage tlcs preimages tracked size n pending₀ at₀ place₀ pending at place =
+Inv-loop h for-remote time stage tlcs preimages tracked size n pending₀ first₀ at₀ place₀ pending first at place =
     let ts = entries (trackedLen h) tracked in
     Walking h for-remote time (entries settlementLen tlcs) (entries pairLen preimages) stage (98 + h) tracked
-    (walk time 0 (length ts) (verdicts h for-remote (entries settlementLen tlcs) (entries pairLen preimages) stage 0 ts)) pending at place
+    (noting time 0 (length ts) 0 (verdicts h for-remote (entries settlementLen tlcs) (entries pairLen preimages) stage 0 ts)) pending first at place
 
 abbrev μ-loop : tie.MeasureT-loop
-μ-loop h for-remote time stage tlcs preimages tracked size n pending₀ at₀ place₀ pending at place = n - place
+μ-loop h for-remote time stage tlcs preimages tracked size n pending₀ first₀ at₀ place₀ pending first at place = n - place
 
 add-size : tie.Need-add-size Inv-loop μ-loop
 add-size c =
@@ -55,30 +55,35 @@ step-requires c κs =
       (omega (arith, few, s .pre .0 .1, c .before .loop-test .taken), s .pre .1 _ (omega (arith, few, c .before .loop-test .taken))),
     )
 
+noted-requires : tie.Need-noted-requires Inv-loop μ-loop
+noted-requires c κs =
+    let s = c .before .before .before .before .before .before .before .before .before .before in
+    omega (arith, tracked-count (s .args .h) (s .args .tracked .now), s .pre .0 .1, c .before .before .before .before .before .loop-test .taken)
+
 returns : tie.Need-returns Inv-loop μ-loop
 returns c =
     let k = c .before .before .before in
     let l = k .before .before .before .loop in
-    walking-chosen _ _ _ _ _ _ _ _ _ _ _ _ (l .inv) (k .before .before .loop-test .taken) _
+    walking-chosen _ _ _ _ _ _ _ _ _ _ _ _ _ (l .inv) (k .before .before .loop-test .taken) _
     (k .step .ensures)
     _ _ (c .before .choice .given .1)
 
 add-at : tie.Need-add-at Inv-loop μ-loop
-add-at c = omega (arith, along-room _ _ _ _ _ _ (c .before .before .before .before .before .before .loop .inv .along) (c .before .before .before .before .before .loop-test .taken))
+add-at c = omega (arith, along-room _ _ _ _ _ _ (c .before .before .before .before .before .before .before .loop .inv .along) (c .before .before .before .before .before .before .loop-test .taken))
 
 add-place : tie.Need-add-place Inv-loop μ-loop
-add-place c = omega (arith, along-few _ _ _ _ _ _ (c .before .before .before .before .before .before .loop .inv .along) (c .before .before .before .before .before .loop-test .taken))
+add-place c = omega (arith, along-few _ _ _ _ _ _ (c .before .before .before .before .before .before .before .loop .inv .along) (c .before .before .before .before .before .before .loop-test .taken))
 
 loop-again : tie.Need-loop-again Inv-loop μ-loop
 loop-again c =
-    let k = c .before .before .before in
+    let k = c .before .before .before .before in
     let l = k .before .before .before .loop in
-    walking-on _ _ _ _ _ _ _ _ _ _ _ _ (l .inv) (k .before .before .loop-test .taken) _
+    walking-on _ _ _ _ _ _ _ _ _ _ _ _ _ (l .inv) (k .before .before .loop-test .taken) _
     (k .step .ensures)
-    _ (c .before .left .given .1)
+    _ _ (c .before .before .left .given .1) (c .noted .ensures)
 
 returns-2 : tie.Need-returns-2 Inv-loop μ-loop
-returns-2 c = walking-end _ _ _ _ _ _ _ _ _ _ _ _ (c .before .loop .inv) (c .loop-test .left)
+returns-2 c = walking-end _ _ _ _ _ _ _ _ _ _ _ _ _ (c .before .loop .inv) (c .loop-test .left)
 
 pub walk-spec : {M : Type 1} → statement M
 walk-spec =
@@ -95,6 +100,7 @@ walk-spec =
     part-step-end
     step-requires
     (λ c. search needs)
+    noted-requires
     (λ c. search needs)
     returns
     add-at

@@ -10,7 +10,9 @@ returns c = rw (c .before .before .before .before .before .before .before .choic
 
 returns-2 : tie.Need-returns-2
 unfolding chooseAnswer
-returns-2 c = rw (c .before .before .before .before .before .choice2 .given .1) (c .before .before .refuse .ensures)
+returns-2 c =
+    rw (c .before .before .before .before .before .before .before .choice2 .given .1)
+    (rw (c .before .before .before .before .number .ensures, c .before .before .before .place .ensures) at (c .before .before .refuse .ensures))
 
 returns-3 : tie.Need-returns-3
 unfolding chooseAnswer
@@ -25,6 +27,8 @@ answer-choice-spec =
     (λ c. search needs)
     (λ c κs. search needs)
     (λ c. search needs)
+    (λ c κs. search needs)
+    (λ c κs. search needs)
     (λ c κs. search needs)
     (λ c. search needs)
     (λ c κs. search needs)

@@ -1,0 +1,2 @@
+-- The promises of a wait are not empty.
+mod WaitsExample
