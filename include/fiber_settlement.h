@@ -91,9 +91,9 @@
  *                also with a preimage that comes later; or the key, or for_remote, is not this cell's. In a later settlement alone.
  *       22       a first settlement without TLCs, and the whole delay is not due. Where it stays past the delay: is header that of the
  *                cell's own block?
- *       23 to 25 the first TLC that is still pending. The place is its place, from 0, in tracked: in a later settlement that is among
- *                the TLCs that stand after the update of the witness, in a first one among the settlement TLCs. A TLC behind it
- *                may come due sooner, so go on asking at every tip.
+ *       23 to 25 the first TLC that is still pending. The place is its place, from 0, in tracked, which has the TLCs that stand after the
+ *                update of the witness; in a first settlement these are the settlement TLCs, in a later one no longer: do not look it up
+ *                in tlcs. A TLC behind it may come due sooner, so go on asking at every tip.
  *       23       no time and no preimage makes this TLC due, and till the last settlement our share waits with it: tell an operator. Its
  *                expiry is no absolute timestamp, or no settlement TLC has its hash and our key. Is tlcs whole and with our keys, does
  *                the record belong to this channel, and does the state match the args? In a later settlement alone.
@@ -139,11 +139,12 @@ uint64_t fiber_settlement_abi(void);
 #define FIBER_SETTLEMENT_LIST_DIFFERS 20 /* wait, the tracked list differs from the TLCs: 0 */
 #define FIBER_SETTLEMENT_NOT_OUR_SHARE 21 /* wait, our share is not there: 0 */
 #define FIBER_SETTLEMENT_DELAY_NOT_DUE 22 /* wait, a first settlement without TLCs, and its delay is not due: 0 */
-#define FIBER_SETTLEMENT_TLC_PASSED_OVER 23 /* wait, a TLC without an absolute timestamp expiry or without a key: its place, from 0 */
+#define FIBER_SETTLEMENT_TLC_PASSED_OVER 23 /* wait, a TLC without an absolute timestamp expiry or without a key: its place in
+                                               tracked, from 0 */
 #define FIBER_SETTLEMENT_TLC_NOT_DUE 24 /* wait, a TLC whose part of the delay is not due, or by timeout whose expiry has not passed:
-                                           its place */
+                                           its place in tracked */
 #define FIBER_SETTLEMENT_TLC_NO_PREIMAGE 25 /* wait, a TLC by preimage, none that is stored counts, and its expiry has not passed (in a
-                                               first settlement: or the whole delay is not due): its place */
+                                               first settlement: or the whole delay is not due): its place in tracked */
 
 /* The front of every answer. */
 #define FIBER_SETTLEMENT_NUMBER 0

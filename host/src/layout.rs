@@ -51,12 +51,14 @@ layout! {
     NOT_OUR_SHARE: u64 = 21;
     /// Wait: a first settlement without TLCs, and its delay is not due.
     DELAY_NOT_DUE: u64 = 22;
-    /// Wait: a TLC without an absolute timestamp expiry or without a key; its place, from 0.
+    /// Wait: a TLC without an absolute timestamp expiry or without a key; its place in the
+    /// tracked list, from 0.
     TLC_PASSED_OVER: u64 = 23;
-    /// Wait: a TLC whose part of the delay is not due, or by timeout whose expiry has not passed; its place.
+    /// Wait: a TLC whose part of the delay is not due, or by timeout whose expiry has not passed; its
+    /// place in the tracked list.
     TLC_NOT_DUE: u64 = 24;
     /// Wait: a TLC by preimage, none that is stored counts, and its expiry has not passed (in a first settlement:
-    /// or the whole delay is not due); its place.
+    /// or the whole delay is not due); its place in the tracked list.
     TLC_NO_PREIMAGE: u64 = 25;
 
     /// Where an answer has its number.

@@ -388,13 +388,13 @@ pub enum Cause {
     /// to look. Tracked TLCs are made from the settlement TLCs, whose records have both, so
     /// [`choose`](crate::choose) does not answer this.
     NoExpiryOrKey {
-        /// Its place.
+        /// Its place in the tracked list.
         tlc: usize,
     },
     /// 24, in a later settlement: we offered the TLC, and its expiry has not passed. Where this stays past the expiry,
     /// look whether [`Request::time`](crate::Request::time) is the tip's median time.
     ExpiryNotPassed {
-        /// Its place.
+        /// Its place in the tracked list.
         tlc: usize,
     },
     /// 24, in a first settlement: the TLC's part of the delay is not due, two thirds where we offered it and one third
@@ -402,13 +402,13 @@ pub enum Cause {
     /// [`Request::cell_epoch`](crate::Request::cell_epoch) is that of the cell's own block and
     /// [`Request::time`](crate::Request::time) the tip's median time.
     DelayOrExpiry {
-        /// Its place.
+        /// Its place in the tracked list.
         tlc: usize,
     },
     /// 25: they offered the TLC, no stored preimage counts for it, and it is not given up yet: its expiry has not
     /// passed, or in a first settlement the whole delay is not due. With a preimage that comes it is chosen at once.
     NoPreimage {
-        /// Its place.
+        /// Its place in the tracked list.
         tlc: usize,
     },
 }
