@@ -1,5 +1,7 @@
 // Numbers held in bytes, parts of a slice, and copies. What every layout of the settlement core is read and written with.
 // For every crate. Uses nothing.
+#![tactic(auto)]
+
 ghost use Rattle.std.specs.Prelude.{◌≡◌, min, ◌+◌, ◌-◌, ◌≤◌, ◌<◌, ◌^◌, length};
 ghost use Rattle.std.proofs.lemmas.List.Edits.{sets};
 ghost use Rattle.fiber_bytes.specs.Bytes.{part, le, le_bytes};

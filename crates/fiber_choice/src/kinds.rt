@@ -3,7 +3,7 @@ use fiber_types::epoch::Epoch;
 use fiber_types::tlc::Amount;
 
 // The scalars of a request. Its lists come beside them.
-#[derive(Drop)]
+#[derive(Clone, Copy)]
 pub struct Scalars {
     pub h: usize,
     pub for_remote: bool,
@@ -15,14 +15,14 @@ pub struct Scalars {
 }
 
 // A share of one side: the unlock byte is 0xFE for the remote one, 0xFF for the local one.
-#[derive(Drop)]
+#[derive(Clone, Copy)]
 pub enum Side {
     Remote,
     Local,
 }
 
 // How a TLC is taken.
-#[derive(Drop)]
+#[derive(Clone, Copy)]
 pub enum Way {
     // Its expiry has passed.
     Timeout,
@@ -31,7 +31,7 @@ pub enum Way {
 }
 
 // The unlock that is chosen.
-#[derive(Drop)]
+#[derive(Clone, Copy)]
 pub enum Choice {
     Share(Side),
     // The TLC at a place of the state before the unlock, never above 253.
@@ -39,28 +39,28 @@ pub enum Choice {
 }
 
 // Which key signs: our settlement key, or the local key of the settlement TLC at a place.
-#[derive(Drop)]
+#[derive(Clone, Copy)]
 pub enum Key {
     Settlement,
     Tlc(usize),
 }
 
 // The delay of a first settlement; a later one hands out none.
-#[derive(Drop)]
+#[derive(Clone, Copy)]
 pub enum Delay {
     None,
     Epoch(Epoch),
 }
 
 // The place of what was looked for.
-#[derive(Drop)]
+#[derive(Clone, Copy)]
 pub enum Found {
     At(usize),
     None,
 }
 
 // Which of 1/3, 2/3 and all of the delay are due.
-#[derive(Drop)]
+#[derive(Clone, Copy)]
 pub struct Dues {
     pub third: bool,
     pub two_thirds: bool,
@@ -68,14 +68,14 @@ pub struct Dues {
 }
 
 // Which settlement a walk is of.
-#[derive(Drop)]
+#[derive(Clone, Copy)]
 pub enum Stage {
     First(Dues),
     Later,
 }
 
 // Why a TLC is still pending.
-#[derive(Drop)]
+#[derive(Clone, Copy)]
 pub enum Cause {
     // A later settlement passes it over: it has no absolute timestamp expiry.
     NoExpiry,
@@ -90,7 +90,7 @@ pub enum Cause {
 }
 
 // What a choice waits for.
-#[derive(Drop)]
+#[derive(Clone, Copy)]
 pub enum Wait {
     // The tracked list is not that of the TLCs.
     ListDiffers,
@@ -103,7 +103,7 @@ pub enum Wait {
 }
 
 // Whether the walk may begin; else a wait, or a refusal by its number.
-#[derive(Drop)]
+#[derive(Clone, Copy)]
 pub enum Ready {
     Yes,
     Wait(Wait),
@@ -111,21 +111,21 @@ pub enum Ready {
 }
 
 // What a step of the walk, and the walk as a whole, comes to: nothing chosen, with so many TLCs pending, or a choice.
-#[derive(Drop)]
+#[derive(Clone, Copy)]
 pub enum Step {
     Pending(usize),
     Chosen { choice: Choice, key: Key },
 }
 
 // The walk as a whole, and the first place at which its count stayed: all TLCs before it fell.
-#[derive(Drop)]
+#[derive(Clone, Copy)]
 pub struct Noted {
     pub step: Step,
     pub first: usize,
 }
 
 // What a settlement comes to: a choice, or what it waits for.
-#[derive(Drop)]
+#[derive(Clone, Copy)]
 pub enum Pick {
     Chosen { choice: Choice, key: Key },
     Wait(Wait),
@@ -133,7 +133,7 @@ pub enum Pick {
 
 // What is decided: the choice, its amount, key and delay; the lengths of the three parts of the output; place and length of
 // the chosen TLC's record in the witness, or in the tracked list; whether it is the last settlement.
-#[derive(Drop)]
+#[derive(Clone, Copy)]
 pub struct Decision {
     pub choice: Choice,
     pub amount: Amount,
@@ -147,7 +147,7 @@ pub struct Decision {
     pub last: bool,
 }
 
-#[derive(Drop)]
+#[derive(Clone, Copy)]
 pub enum ChoiceAnswer {
     Chosen(Decision),
     // Nothing to unlock as things stand, by a row from 20 on: ask again.
@@ -158,7 +158,7 @@ pub enum ChoiceAnswer {
 
 // What a choice comes to. The TLC at skip is settled, none where skip is as high as the number of TLCs; the pair counts only
 // with the flag.
-#[derive(Drop)]
+#[derive(Clone, Copy)]
 pub struct Plan {
     pub byte: usize,
     pub flag: bool,

@@ -3,7 +3,7 @@ ghost use Rattle.std.specs.Prelude.{◌≡◌, ◌<◌};
 ghost use Rattle.fiber_since.specs.Epoch as S;
 ghost use Rattle.fiber_since.specs.inner.Bounds.{checked_mul, Bounded};
 
-#[derive(Drop)]
+#[derive(Clone, Copy)]
 pub struct Epoch {
     pub number: u64,
     pub index: u64,
@@ -11,7 +11,7 @@ pub struct Epoch {
 }
 
 // An epoch scaled by a fraction.
-#[derive(Drop)]
+#[derive(Clone, Copy)]
 pub enum Scaled {
     Epoch(Epoch),
     // Turned down by a row of document 01's table.
@@ -19,7 +19,7 @@ pub enum Scaled {
 }
 
 // The due test's answer.
-#[derive(Drop)]
+#[derive(Clone, Copy)]
 pub enum DueTest {
     Due,
     NotDue,
@@ -27,7 +27,7 @@ pub enum DueTest {
     Refused { number: usize, place: usize },
 }
 
-#[derive(Drop)]
+#[derive(Clone, Copy)]
 enum Product {
     Fits(u64),
     Over,

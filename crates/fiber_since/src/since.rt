@@ -2,7 +2,7 @@
 ghost use Rattle.std.specs.Prelude.{◌≡◌};
 ghost use Rattle.fiber_since.specs.Since as S;
 
-#[derive(Drop)]
+#[derive(Clone, Copy)]
 pub enum Metric {
     Block,
     Epoch,
@@ -10,7 +10,7 @@ pub enum Metric {
     None,
 }
 
-#[derive(Drop)]
+#[derive(Clone, Copy)]
 pub struct Since {
     pub relative: bool,
     pub metric: Metric,
@@ -18,7 +18,7 @@ pub struct Since {
 }
 
 // When a TLC can be taken by timeout, in milliseconds.
-#[derive(Drop)]
+#[derive(Clone, Copy)]
 pub enum Expiry {
     At(u64),
     None,

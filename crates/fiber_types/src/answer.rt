@@ -1,5 +1,5 @@
 // The answer of a writer.
-#[derive(Drop)]
+#[derive(Clone, Copy)]
 pub enum Written {
     // So many bytes were written to the front of the output.
     Bytes(usize),

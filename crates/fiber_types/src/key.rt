@@ -6,7 +6,7 @@ use crate::layout::KEY;
 use fiber_blake2b::blake2b::ckb_hash;
 use fiber_bytes::put;
 
-#[derive(Drop)]
+#[derive(Clone, Copy)]
 pub enum KeyAnswer {
     Taken,
     // Turned down by a row of document 01's table.
@@ -14,7 +14,7 @@ pub enum KeyAnswer {
 }
 
 // A key's hash, or 20 zeros where the key is turned down.
-#[derive(Drop)]
+#[derive(Clone, Copy)]
 pub struct KeyHash {
     pub answer: KeyAnswer,
     pub bytes: [u8; 20],

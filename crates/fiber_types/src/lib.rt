@@ -1,6 +1,8 @@
 // The lower face: hashes, since values, epochs, TLC records and unlocks, key hashes. Whoever needs one of these uses this crate; every function
 // that it hands out takes any input. Its own are records and key hashes; hashes, since values and epochs are handed on from below. Uses
 // fiber_bytes, fiber_since, fiber_blake2b and fiber_sha256.
+#![tactic(auto)]
+
 pub mod answer;
 pub mod key;
 pub mod layout;

@@ -8,21 +8,21 @@ use crate::layout::RECORD_FIXED;
 use fiber_bytes::{le64, part_of, put, put_le64};
 
 // An amount of 128 bits as two halves: low + 2^64 high.
-#[derive(Drop)]
+#[derive(Clone, Copy)]
 pub struct Amount {
     pub low: u64,
     pub high: u64,
 }
 
 // The numbers of a TLC. Its hash and its two key hashes stay where they are, as parts of a slice.
-#[derive(Drop)]
+#[derive(Clone, Copy)]
 pub struct Tlc {
     pub kind: u8,
     pub amount: Amount,
     pub expiry: u64,
 }
 
-#[derive(Drop)]
+#[derive(Clone, Copy)]
 pub enum TlcRead {
     Whole(Tlc),
     // Turned down by a row of document 01's table.

@@ -8,13 +8,13 @@ use crate::layout::{UNLOCK, UNLOCK_WITH_PREIMAGE};
 use fiber_bytes::put;
 
 // What an unlock says of itself. Its signature and its preimage stay where they are, as parts of a slice.
-#[derive(Drop)]
+#[derive(Clone, Copy)]
 pub struct Unlock {
     pub byte: u8,
     pub flag: bool,
 }
 
-#[derive(Drop)]
+#[derive(Clone, Copy)]
 pub enum UnlockRead {
     Whole(Unlock),
     // Turned down by a row of document 01's table.

@@ -10,7 +10,7 @@ use fiber_types::unlock;
 use fiber_types::unlock::UnlockRead;
 
 // What taking the unlocks answers.
-#[derive(Drop)]
+#[derive(Clone, Copy)]
 pub enum UnlocksAnswer {
     // Every unlock can be taken.
     Fine,
@@ -20,7 +20,7 @@ pub enum UnlocksAnswer {
 
 // What the unlocks do: a mark for each place whose TLC they settle, and whether they unlock a share. The shares have no
 // mark: 0xFE is the remote share, though a list of 255 TLCs has a place 254.
-#[derive(Drop)]
+#[derive(Clone, Copy)]
 pub struct TakenUnlocks {
     pub answer: UnlocksAnswer,
     pub marks: [bool; 256],

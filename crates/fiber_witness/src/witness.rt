@@ -7,7 +7,7 @@ use fiber_types::tlc::valid_hash_len;
 use fiber_types::unlock;
 use fiber_types::unlock::UnlockRead;
 
-#[derive(Drop)]
+#[derive(Clone, Copy)]
 pub enum WitnessRead {
     // So many TLCs and unlocks; the places of the share part and of the first unlock.
     Whole {

@@ -1,6 +1,8 @@
 // Runs the two forms that are proved by hand beside what the core uses, on the inputs that `replay` has: the reader as a struct beside the cursor, and
 // stored preimages as a list of structs beside the flat slice. Prints how many answers agree and how many differ; the file `stdout` has no difference.
 // A program; uses the two forms, the upper face, what is below it, test_lines, and the toolchain's libraries for files.
+#![tactic(auto)]
+
 ghost use Rattle.std.specs.Prelude.{◌≡◌, ◌≤◌, length, take};
 ghost use Rattle.fiber_choice.specs.Entries.{entries, pair_len};
 ghost use Rattle.fiber_choice.specs.Preimages.{find_pair};
@@ -18,13 +20,13 @@ use test_lines::{find, number, unhex};
 use watchtower::witness;
 use watchtower::witness::WitnessRead;
 
-#[derive(Drop)]
+#[derive(Clone, Copy)]
 struct Count {
     agree: u64,
     differ: u64,
 }
 
-#[derive(Drop)]
+#[derive(Clone, Copy)]
 struct Counts {
     readers: Count,
     searches: Count,

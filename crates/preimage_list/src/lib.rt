@@ -1,6 +1,8 @@
 // Stored preimages as a list of structs: a lent slice, each struct two arrays of 32 bytes. `find_pair` is the one function that carries such a
 // slice, and is proved by hand; each comparison stands in a function on plain arrays. A form beside the upper face, for whoever lends such a
 // list; no crate of the core uses it, the program `forms` runs it. Uses fiber_first, and types and definitions of fiber_choice.
+#![tactic(auto)]
+
 ghost use Rattle.std.specs.Prelude.{◌≡◌, cond, ltb};
 ghost use Rattle.fiber_choice.specs.Entries as S;
 ghost use Rattle.fiber_choice.specs.declared.kinds.Found.TheVariants as FoundCase;
@@ -10,7 +12,7 @@ ghost use Rattle.fiber_choice.specs.Preimages.{find_pair};
 use fiber_choice::kinds::Found;
 use fiber_first::entries::same;
 
-#[derive(Drop)]
+#[derive(Clone, Copy)]
 pub struct Preimage {
     pub hash: [u8; 32],
     pub preimage: [u8; 32],

@@ -3,6 +3,8 @@
 // The list's top says how it was made and what a line holds. Each case is one call of an export of the C interface, and
 // status, answer buffer and output buffer are compared whole, so that a byte written where none belongs is seen.
 // A program; uses the C interface, fiber_bytes, fiber_first, test_lines, and the toolchain's libraries for files.
+#![tactic(auto)]
+
 ghost use Rattle.std.specs.Prelude.{◌≡◌, length};
 
 use fiber_bytes::{le64, part_of, put, put_le64};
@@ -30,14 +32,14 @@ const ANSWER: usize = 2056;
 const OUTPUT: usize = 2216;
 
 // Where the next field of a line goes, and where the bytes of the next input do; behind '=' the latter is 0.
-#[derive(Drop)]
+#[derive(Clone, Copy)]
 struct Row {
     at: usize,
     end: usize,
 }
 
 // The cases of a kind.
-#[derive(Drop)]
+#[derive(Clone, Copy)]
 struct Tally {
     kind: u8,
     run: u64,

@@ -4,6 +4,8 @@
 // were to be.
 //
 // For `settle`. Uses the two faces and fiber_bytes.
+#![tactic(auto)]
+
 ghost use Rattle.std.specs.Prelude.{◌≡◌, [], ◌∷◌, ◌+◌, ◌*◌, ◌≤◌, ◌<◌, length, get_or, set};
 ghost use Rattle.std.proofs.lemmas.List.Edits.{sets};
 ghost use Rattle.fiber_witness.specs.Witness.{record_len, chunks};

@@ -63,7 +63,7 @@ fn write_some(fd: i32, bytes: &[u8]) -> isize {
 }
 
 // What came of a read to the end: so many bytes at the start of the buffer, or a failure.
-#[derive(Drop)]
+#[derive(Clone, Copy)]
 pub enum Input {
     Bytes(usize),
     Failed,

@@ -1,6 +1,8 @@
 // The program `settle`: one byte h and a witness on standard input, the updated state or the refusal on standard output.
 // It only reads, calls and writes; what it prints is proved of `report`. Where a read fails it prints nothing, and where a read or a
 // write fails it says so in one line on standard error. Uses report, fiber_bytes, and the toolchain's libraries for files.
+#![tactic(auto)]
+
 mod calls;
 
 ghost use Rattle.std.specs.Prelude.{◌≡◌, length};

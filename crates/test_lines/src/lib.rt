@@ -1,5 +1,7 @@
 // Reads lists of test cases for the programs `vectors`, `replay` and `forms`, and for no other crate: a case to a line, fields parted by single blanks.
 // Uses nothing.
+#![tactic(auto)]
+
 ghost use Rattle.std.specs.Prelude.{◌≡◌, ◌+◌, ◌*◌, ◌/◌, ◌%◌, ◌^◌, ◌≤◌, max, length};
 ghost use Rattle.std.proofs.lemmas.List.Edits.{sets};
 ghost use Rattle.test_lines.specs.Lines as S;

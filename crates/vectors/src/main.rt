@@ -3,6 +3,8 @@
 // A line is: the hash's name, a message in hexadecimal ('-' for no bytes), how often the message is repeated, and the
 // digest in hexadecimal. Empty lines, and lines that start with '#', are passed over.
 // A program; uses the lower face, fiber_bytes, test_lines, and the toolchain's libraries for files.
+#![tactic(auto)]
+
 ghost use Rattle.std.specs.Prelude.{◌≡◌, ◌<◌, ◌≤◌, length};
 
 use fiber_bytes::part_of;
@@ -10,7 +12,7 @@ use libc::STDOUT_FILENO;
 use std::num::wrapping_add_u64;
 use test_lines::{agrees, find, number, unhex};
 
-#[derive(Drop)]
+#[derive(Clone, Copy)]
 enum Hash {
     Blake2b,
     Ckb,
@@ -18,13 +20,13 @@ enum Hash {
     None,
 }
 
-#[derive(Drop)]
+#[derive(Clone, Copy)]
 struct Count {
     run: u64,
     agree: u64,
 }
 
-#[derive(Drop)]
+#[derive(Clone, Copy)]
 struct Counts {
     blake2b: Count,
     ckb: Count,

@@ -2,6 +2,8 @@
 // the cursor `watchtower::witness::read` does. Every function that carries the struct is proved by hand, so few do and none of them decides
 // anything: what was taken goes to functions on plain slices and numbers. A form beside the upper face, for whoever wants the reference's; no crate
 // of the core uses it, the program `forms` runs it. Uses the two faces and fiber_bytes.
+#![tactic(auto)]
+
 ghost use Rattle.std.specs.Prelude.{◌≡◌, cond, leb, eqb, ◌+◌, ◌≤◌, ◌<◌, length, get_or, drop};
 ghost use Rattle.fiber_witness.specs.Witness.{unlock_len, read_unlocks, read_witness};
 ghost use Rattle.witness_reader.specs.Reader.{taken, left};
@@ -12,13 +14,13 @@ use fiber_types::layout::{RECORD_FIXED, SHARES, UNLOCK};
 use fiber_types::tlc::valid_hash_len;
 use watchtower::witness::WitnessRead;
 
-#[derive(Drop)]
+#[derive(Clone, Copy)]
 pub struct WitnessReader<'a> {
     pub remaining: &'a [u8],
 }
 
 // What `take` gives: whether there were enough bytes, the bytes, and the reader of what is left.
-#[derive(Drop)]
+#[derive(Clone, Copy)]
 pub struct TakeAnswer<'a> {
     pub enough: bool,
     pub part: &'a [u8],

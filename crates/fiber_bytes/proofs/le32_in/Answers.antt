@@ -1,0 +1,11 @@
+-- Four bytes as a number: two halves.
+use native.Mathlib.Omega.{arith}
+use Rattle.fiber_bytes.proofs.BytesLaws.{le_add}
+use borrow.Author.Rules.{rules}
+use Rattle.fiber_bytes.proofs.le32_in.Goals as goal
+
+pub returns : goal.returns
+returns c =
+    let a = c.args in
+    let e = le_add a.s.now a.at 2 2 (search rules) in
+    (omega (arith, e), search rules)

@@ -1,0 +1,14 @@
+-- The two cases.
+use native.Mathlib.Omega.{arith}
+use borrow.Author.Tests.{lt-ltb, le-ltb}
+use Rattle.fiber_since.specs.Epoch.{factor}
+use borrow.Author.Rules.{rules}
+use Rattle.fiber_since.proofs.epoch.factor.Goals as goal
+
+pub returns-then-d-gt1800 : goal.returns-then-d-gt1800
+unfolding factor
+returns-then-d-gt1800 c = (simp (lt-ltb 1800 c.args.d (omega (arith, c.if-d-gt1800.true))), search rules)
+
+pub returns-else-d-gt1800 : goal.returns-else-d-gt1800
+unfolding factor
+returns-else-d-gt1800 c = (simp (le-ltb 1800 c.args.d (omega (arith, c.if-d-gt1800.false))), search rules)
