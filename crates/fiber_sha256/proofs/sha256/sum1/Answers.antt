@@ -1,0 +1,9 @@
+-- `sum1` by its rotations, each of which `rotr` makes.
+use Rattle.std.proofs.Common.{ap₂, rules}
+use lib.Bits.{bit_xor}
+use Rattle.fiber_sha256.specs.Sha256.{sum1}
+use Rattle.fiber_sha256.proofs.sha256.sum1.Goals as goal
+
+pub returns : goal.returns
+unfolding sum1
+returns c = ap₂ bit_xor (ap₂ bit_xor c.rotr.ensures c.rotr-2.ensures) c.rotr-3.ensures
