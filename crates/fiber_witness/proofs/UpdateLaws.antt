@@ -42,17 +42,17 @@ marked_before (b ∷ bs) i k h = go b (marked_before bs (suc i) k (omega arith))
     go false e = e
 
 -- the mark j places behind the first
-marked_from : (bs : List Bool) (i j : ℕ) → get_or bs j false ≡ member (i + j) (marked_from i bs)
+marked_from_lem : (bs : List Bool) (i j : ℕ) → get_or bs j false ≡ member (i + j) (marked_from i bs)
 unfolding marked_from member
-marked_from [] i j = refl
-marked_from (b ∷ bs) i zero = rw add-zero (go b)
+marked_from_lem [] i j = refl
+marked_from_lem (b ∷ bs) i zero = rw add-zero (go b)
   where
     go : (t : Bool) → t ≡ member i (cond t (i ∷ marked_from (suc i) bs) (marked_from (suc i) bs))
     go true = rw (eq-eqb i i refl)
     go false = sym (marked_before bs (suc i) i (omega arith))
-marked_from (b ∷ bs) i (suc j) =
+marked_from_lem (b ∷ bs) i (suc j) =
     let e : i + suc j ≡ suc i + j = omega arith in
-    rw e (go b (marked_from bs (suc i) j))
+    rw e (go b (marked_from_lem bs (suc i) j))
   where
     go : (t : Bool) → get_or bs j false ≡ member (suc i + j) (marked_from (suc i) bs)
         → get_or bs j false ≡ member (suc i + j) (cond t (i ∷ marked_from (suc i) bs) (marked_from (suc i) bs))
@@ -62,7 +62,7 @@ marked_from (b ∷ bs) i (suc j) =
 -- marks say what the list of the marked places says
 pub marks_marked : (marks : List Bool) → Marks marks (marked marks)
 unfolding Marks marked
-marks_marked marks i = rw zero-add at (marked_from marks 0 i)
+marks_marked marks i = rw zero-add at (marked_from_lem marks 0 i)
 
 -- a repeat of false has no true
 none_marked : (m i : ℕ) → get_or (replicate m false) i false ≡ false

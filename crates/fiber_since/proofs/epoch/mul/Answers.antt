@@ -8,33 +8,33 @@ use borrow.Author.Rules.{rules}
 use Rattle.fiber_since.proofs.epoch.mul.Goals as goal
 
 pub returns-then-not-within_bits : goal.returns-then-not-within_bits
-returns-then-not-within_bits c = scaled_bits _ _ _ (sym c.within_bits.ensures ∙ not-true _ c.if-not-within_bits.true-raw)
+returns-then-not-within_bits c = scaled_bits _ _ _ (sym c.within_bits.ensures ∙ c.if-not-within_bits.true)
 
 pub overflow_mul-units : goal.overflow_mul-units
 overflow_mul-units c =
-    omega (arith, (units_small c.args.delay (sym c.within_bits.ensures ∙ not-false _ c.if-not-within_bits.false-raw)).0)
+    omega (arith, (units_small c.args.delay (sym c.within_bits.ensures ∙ c.if-not-within_bits.false)).0)
 
 pub overflow_add-units : goal.overflow_add-units
 overflow_add-units c =
-    omega (arith, (units_small c.args.delay (sym c.within_bits.ensures ∙ not-false _ c.if-not-within_bits.false-raw)).1)
+    omega (arith, (units_small c.args.delay (sym c.within_bits.ensures ∙ c.if-not-within_bits.false)).1)
 
 pub returns-in_default : goal.returns-in_default
 unfolding units
 returns-in_default c =
-    let h = sym c.within_bits.ensures ∙ not-false _ c.if-not-within_bits.false-raw in
+    let h = sym c.within_bits.ensures ∙ c.if-not-within_bits.false in
     scaled_over _ _ _ h (sym c.in_default.is ∙ c.checked_mul.ensures)
 
 pub returns-in_default-checked_mul : goal.returns-in_default-checked_mul
 unfolding units
 returns-in_default-checked_mul c =
-    let h = sym c.within_bits.ensures ∙ not-false _ c.if-not-within_bits.false-raw in
+    let h = sym c.within_bits.ensures ∙ c.if-not-within_bits.false in
     scaled_over_2 _ _ _ h _ (sym c.in-Fits.is ∙ c.checked_mul.ensures)
     (sym c.in_default-checked_mul.is ∙ c.checked_mul-2.ensures)
 
 pub returns : goal.returns
 unfolding units
 returns c =
-    let h = sym c.within_bits.ensures ∙ not-false _ c.if-not-within_bits.false-raw in
+    let h = sym c.within_bits.ensures ∙ c.if-not-within_bits.false in
     c.normalized.ensures
     ∙ scaled_fits _ _ _ h _ (sym c.in-Fits.is ∙ c.checked_mul.ensures)
     _ (sym c.in-Fits-checked_mul.is ∙ c.checked_mul-2.ensures)

@@ -1,0 +1,33 @@
+-- Each turn reads one unlock: what the rest of the places say, from here, is what all of them say.
+-- An unlock has more than one byte, so what is left of the witness falls.
+use Prim.Native.Nat.{◌-◌}
+use mathlib.Core.Path.{sym, ◌∙◌}
+use native.Mathlib.Omega.{arith}
+use lib.ListN.{length}
+use Rattle.fiber_witness.proofs.WitnessLaws.{Reading, reading_start, reading_less, reading_more, reading_cut, reading_end}
+use borrow.Author.Rules.{rules}
+use Rattle.fiber_witness.proofs.witness.read_unlocks.Goals as goal
+
+pub loop-at-init : goal.loop-at-init
+loop-at-init c = reading_start _ _ _ c.requires
+
+pub loop-at-preserved : goal.loop-at-preserved
+loop-at-preserved c =
+    reading_more _ _ _ _ _ c.loop-at.invariant (omega arith) _ _ (sym c.read.ensures ∙ c.in-Whole.is) c.witness_len-at.ensures
+
+pub overflow_add-at : goal.overflow_add-at
+overflow_add-at c = omega (arith, (loop-at-preserved c).room)
+
+pub overflow_add-unlock_count : goal.overflow_add-unlock_count
+overflow_add-unlock_count c = omega (arith, (loop-at-preserved c).room, (loop-at-preserved c).few)
+
+pub loop-at-smaller : goal.loop-at-smaller
+loop-at-smaller c =
+    reading_less _ _ _ _ _ c.loop-at.invariant (omega arith) _ _ (sym c.read.ensures ∙ c.in-Whole.is) c.witness_len-at.ensures
+
+pub returns-in-Refused : goal.returns-in-Refused
+returns-in-Refused c =
+    reading_cut _ _ _ _ _ c.loop-at.invariant (omega arith) _ _ (sym c.read.ensures ∙ c.in-Refused.is)
+
+pub returns : goal.returns
+returns c = reading_end _ _ _ _ _ c.loop-at.invariant c.loop-at-test.false
