@@ -538,14 +538,14 @@ plan_unlock_lem n ps (ChoiceCase.Tlc place WayCase.Timeout) = refl
 plan_unlock_lem n ps (ChoiceCase.Tlc place (WayCase.Preimage pair_place)) = refl
 
 -- so is the state after it
-plan_after : (n : ℕ) (rs : List (List ℕ)) (remote local : List ℕ) (c : Choice) → n ≡ length rs → state_after rs remote local (takes c) ≡ plan_after rs remote local (plan_of n c)
+plan_after_lem : (n : ℕ) (rs : List (List ℕ)) (remote local : List ℕ) (c : Choice) → n ≡ length rs → state_after rs remote local (takes c) ≡ plan_after rs remote local (plan_of n c)
 unfolding plan_of plan_after state_after takes
-plan_after n rs remote local (ChoiceCase.Share SideCase.Remote) e =
+plan_after_lem n rs remote local (ChoiceCase.Share SideCase.Remote) e =
     ap (λ (l : List (List ℕ)). state_bytes l (share_left true remote) (share_left false local)) (keep_all 0 rs ∙ sym (keep_past n 0 rs (inr (omega arith))))
-plan_after n rs remote local (ChoiceCase.Share SideCase.Local) e =
+plan_after_lem n rs remote local (ChoiceCase.Share SideCase.Local) e =
     ap (λ (l : List (List ℕ)). state_bytes l (share_left false remote) (share_left true local)) (keep_all 0 rs ∙ sym (keep_past n 0 rs (inr (omega arith))))
-plan_after n rs remote local (ChoiceCase.Tlc place WayCase.Timeout) e = refl
-plan_after n rs remote local (ChoiceCase.Tlc place (WayCase.Preimage pair_place)) e = refl
+plan_after_lem n rs remote local (ChoiceCase.Tlc place WayCase.Timeout) e = refl
+plan_after_lem n rs remote local (ChoiceCase.Tlc place (WayCase.Preimage pair_place)) e = refl
 
 -- ---- what is handed out
 
@@ -575,7 +575,7 @@ module _ (h : ℕ) (args s preimages out : List ℕ) (remote local : List ℕ) (
   unlock_same = rw e (plan_unlock_lem (length s / (98 + h)) ps choice)
 
   after_same : state_after (tlcs h s) remote local (takes choice) ≡ plan_after (tlcs h s) remote local p
-  after_same = rw e (plan_after (length s / (98 + h)) (tlcs h s) remote local choice (sym (tlcs_length h s)))
+  after_same = rw e (plan_after_lem (length s / (98 + h)) (tlcs h s) remote local choice (sym (tlcs_length h s)))
 
   -- the three parts are those of the plan
   whole : unlock_of ps choice ++ state_bytes (tlcs h s) remote local ++ new_args args (state_after (tlcs h s) remote local (takes choice))
@@ -628,7 +628,7 @@ module _ (h : ℕ) (args s preimages out : List ℕ) (remote local : List ℕ) (
 pub after_small : (rs : List (List ℕ)) (remote local : List ℕ) (c : Choice) → length remote ≡ 36 → length local ≡ 36
     → length (state_after rs remote local (takes c)) ≤ length (state_bytes rs remote local)
 after_small rs remote local c e f =
-    rw (plan_after (length rs) rs remote local c refl)
+    rw (plan_after_lem (length rs) rs remote local c refl)
     (omega (arith, state_size rs remote local e f, after_size rs remote local (plan_of (length rs) c) e f))
 
 -- no unlock is shorter than one without a preimage

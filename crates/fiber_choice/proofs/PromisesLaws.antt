@@ -59,7 +59,7 @@ use Rattle.fiber_choice.specs.Waits.{wait_place}
 use Rattle.fiber_choice.specs.Settlements.{walked_by, wait_by, or_wait, if_ready, later_ready, is_last, later_choice, unsettled, later_place, later_state, later_of, later, first_delay, first_place, first_thirds, first_ready, first}
 use Rattle.fiber_choice.specs.Choice.{after_delay, choice_of, record_part, record_of}
 use Rattle.fiber_choice.specs.inner.Plan.{Within, Below}
-use Rattle.fiber_choice.specs.Promises.{IsStage, is_later, is_first, last_left, named, Waiting, WaitPromises, FromWalk, Exactly, WaitsExactly, Decides, tlcs_left, tlcs_before, KeyIn, PairIn, Before, Onward, waits, stays, sooner, at_time, Promised, Promises, other_key}
+use Rattle.fiber_choice.specs.Promises.{IsStage, later_stage, first_stage, last_left, named, Waiting, WaitPromises, FromWalk, Exactly, WaitsExactly, Decides, tlcs_left, tlcs_before, KeyIn, PairIn, Before, Onward, waits, stays, sooner, at_time, Promised, Promises, other_key}
 use Rattle.fiber_choice.proofs.EntriesLaws.{tracked_length, lists_equal}
 use Rattle.fiber_choice.proofs.HandedLaws.{tracked_size, tlcs_length, tlc_at_lem, each_tracked, after_small, unlock_least, new_lengths, unlock_whole, unlock_accepted}
 use Rattle.fiber_choice.proofs.FirstRecordsLaws.{share_by_length}
@@ -273,7 +273,7 @@ module _ (q : Request) (w : List ℕ) (n share_place : ℕ) (t : Taken) where
       delay = λ c. DelayCase.None;
       place = later_place q.h (unsettled t.settled 0 n);
       stage = StageCase.Later;
-      stage_is = is_later;
+      stage_is = later_stage;
       step = λ time. later_choice (at_time q time) (is_last other);
       comes = λ time out. rw (valid_at q time v, f, u, r);
       walks = λ e time. sym (choice_walk (at_time q time) (is_last other) e);
@@ -323,7 +323,7 @@ module _ (q : Request) (w : List ℕ) (v : valid_request q ≡ true) (full : Epo
         delay = λ c. DelayCase.Epoch (first_delay third two full c);
         place = first_place q.h;
         stage = stage;
-        stage_is = is_first f x y;
+        stage_is = first_stage f x y;
         step = λ time. walked_by (at_time q time) stage;
         comes = λ time out. rw (valid_at q time v, f, r, x, y);
         walks = λ e time. refl;
@@ -400,11 +400,11 @@ parts_of a b c d x e =
     )
 
 -- the key hash in the other slot of a state, by the place of its shares
-other_key : (for_remote : Bool) (rs : List (List ℕ)) (remote local : List ℕ) → length remote ≡ 36 → length local ≡ 36
+other_key_lem : (for_remote : Bool) (rs : List (List ℕ)) (remote local : List ℕ) → length remote ≡ 36 → length local ≡ 36
     → (shares : ℕ) → shares + 72 ≡ length (state_bytes rs remote local)
     → take 20 (cond for_remote remote local) ≡ part (state_bytes rs remote local) (shares + cond for_remote 0 36) 20
 unfolding state_bytes
-other_key for_remote rs remote local e f shares g = go for_remote
+other_key_lem for_remote rs remote local e f shares g = go for_remote
   where
     state : List ℕ
     state = (length rs ∷ flatten rs) ++ (remote ++ local)
@@ -500,7 +500,7 @@ module _ (q : Request) (is_later : Bool) (w : List ℕ) (c : Begun q is_later w)
     unfolding is_last
     last_state shares e =
         let f : shares + 72 ≡ length before = e ∙ t.size in
-        t.ends ∙ c.lasts ∙ ap (λ (k : List ℕ). is_later && same k (replicate 20 0)) (rw t.state (other_key q.for_remote (tracked_records (tracked_tlcs q)) c.remote c.local c.remotes c.locals shares f))
+        t.ends ∙ c.lasts ∙ ap (λ (k : List ℕ). is_later && same k (replicate 20 0)) (rw t.state (other_key_lem q.for_remote (tracked_records (tracked_tlcs q)) c.remote c.local c.remotes c.locals shares f))
 
     walk_named : d.last ≡ false → (stage : Stage) × (IsStage q is_later stage × (walked_by q stage ≡ StepCase.Chosen d.choice d.key))
     walk_named e = (c.stage, (c.stage_is, sym (c.walks (sym t.ends ∙ e) q.time) ∙ t.chosen))
@@ -641,8 +641,8 @@ unchosen_left (StepCase.Chosen choice key) u = absurd u
 -- our share may be taken in every later settlement
 stage_first : (q : Request) (is_later : Bool) (stage : Stage) → IsStage q is_later stage → may_share stage ≡ false → is_later ≡ false
 unfolding may_share
-stage_first q is_later stage is_later e = absurd (false≢true (sym e))
-stage_first q is_later stage (is_first a b c) e = refl
+stage_first q is_later stage later_stage e = absurd (false≢true (sym e))
+stage_first q is_later stage (first_stage a b c) e = refl
 
 module _ (q : Request) (is_later : Bool) (w : List ℕ) (c : Begun q is_later w) (out : List ℕ) (wait : Wait) (e : (choice_of q is_later w out).answer ≡ AnswerCase.Wait wait) where
   abbrev tracked : List (List ℕ)

@@ -95,8 +95,8 @@ pub data Onward : Step → Step → Type 0 where
 
 -- which settlement it is; a first one with the parts of its delay that are due
 pub data IsStage (q : Request) : Bool → Stage → Type 0 where
-  is_later : IsStage q true StageCase.Later
-  is_first : {full third two_thirds : Epoch} → delay_of q.args ≡ ScaledCase.Epoch full → scaled full 1 3 ≡ ScaledCase.Epoch third → scaled full 2 3 ≡ ScaledCase.Epoch two_thirds
+  later_stage : IsStage q true StageCase.Later
+  first_stage : {full third two_thirds : Epoch} → delay_of q.args ≡ ScaledCase.Epoch full → scaled full 1 3 ≡ ScaledCase.Epoch third → scaled full 2 3 ≡ ScaledCase.Epoch two_thirds
       → IsStage q false (StageCase.First (dues_by q.header third two_thirds full q.current))
 
 -- the verdict of the TLC at a place, and the walk's step there, with so many pending
