@@ -104,7 +104,7 @@ fn hash_after(
 // The unlock, with 65 zeros for the signature, at the front of the output.
 fn put_unlock(preimages: &[u8], p: Plan, out: &mut [u8])
     requires byte_bound { (p.byte ≤ 255) × (99 ≤ length out.old) }
-    requires fact { (64 * p.pair_place + 64 ≤ length preimages.now) ⊎ (p.flag ≡ false) }
+    requires pair_whole { (64 * p.pair_place + 64 ≤ length preimages.now) ⊎ (p.flag ≡ false) }
     ensures { out.new ≡ sets out.old 0 (plan_unlock (entries pair_len preimages.now) p) }
 {
     let u = Unlock {
@@ -150,7 +150,7 @@ fn put_joined(
 )
     requires h_bound { (h ≤ 32) × ((length remote.now ≡ 36) × (length local.now ≡ 36)) }
     requires tracked_len_bound { (length (entries (tracked_len h) tracked.now) ≤ 254) × ((36 ≤ length args.now) × (p.byte ≤ 255)) }
-    requires fact { ((64 * p.pair_place + 64 ≤ length preimages.now) ⊎ (p.flag ≡ false)) × (p.skip ≤ 255) }
+    requires pair_whole { ((64 * p.pair_place + 64 ≤ length preimages.now) ⊎ (p.flag ≡ false)) × (p.skip ≤ 255) }
     requires p_in_bounds { length
         (joined args.now (entries (tracked_len h) tracked.now) (entries pair_len preimages.now) remote.now local.now p) ≤
         length out.old }
