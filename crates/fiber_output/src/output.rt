@@ -3,7 +3,7 @@ ghost use Rattle.std.specs.Prelude.{◌≡◌, true, false, ◌⊎◌, ◌+◌, 
 ghost use mathlib.Core.List.{[], ◌∷◌, ◌++◌, flatten};
 ghost use Rattle.std.proofs.lemmas.List.Edits.{sets};
 ghost use Rattle.fiber_blake2b.specs.Blake2b.{ckb_hash};
-ghost use Rattle.fiber_types.specs.Records.{Gives, valid_hash_len};
+ghost use Rattle.fiber_types.specs.Records.{Gives, valid_hash_len, witness_len};
 ghost use Rattle.fiber_choice.specs.Entries.{entries, tracked_len, tracked_records, pair_len};
 ghost use Rattle.fiber_choice.specs.HandedOut as S;
 ghost use Rattle.fiber_choice.specs.inner.Plan.{plan_of, plan_after, plan_unlock, joined, Below, Within};
@@ -137,6 +137,20 @@ fn put_args(args: &[u8], hash: &[u8], out: &mut [u8], at: usize)
     put(out, at + 57, part_of(args, 57, args.len()));
 }
 
+// How many bytes the unlock has, with a preimage or without.
+fn unlock_size(flag: bool) -> usize
+    ensures { result ≡ witness_len flag }
+{
+    if flag { UNLOCK_WITH_PREIMAGE } else { UNLOCK }
+}
+
+// How many bytes the new args have: 57, and what stands behind them.
+fn new_args_len(args: &[u8]) -> usize
+    ensures { result ≡ 57 + (length args.now - 57) }
+{
+    if args.len() < 57 { 57 } else { args.len() }
+}
+
 // The three parts, joined, in an output that has room for them.
 fn put_joined(
     h: usize,
@@ -159,7 +173,7 @@ fn put_joined(
         local.now p) }
 {
     let n = tracked.len() / (TRACKED_FIXED + h);
-    let at = if p.flag { UNLOCK_WITH_PREIMAGE } else { UNLOCK };
+    let at = unlock_size(p.flag);
     put_unlock(preimages, p, out);
     let hash = hash_after(h, tracked, remote, local, p, &mut out[at..]);
     let marks = no_marks();
@@ -238,9 +252,9 @@ pub fn write_output(
 {
     let n = tracked.len() / (TRACKED_FIXED + h);
     let p = plan_of(choice, n);
-    let unlock_len = if p.flag { UNLOCK_WITH_PREIMAGE } else { UNLOCK };
+    let unlock_len = unlock_size(p.flag);
     let state_len = STATE_FIXED + n * (RECORD_FIXED + h);
-    let args_len = if args.len() < 57 { 57 } else { args.len() };
+    let args_len = new_args_len(args);
     let size = unlock_len + state_len + args_len;
     if out.len() < size {
         return ChoiceAnswer::Refused {

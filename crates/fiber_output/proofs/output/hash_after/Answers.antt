@@ -10,14 +10,15 @@ use Rattle.fiber_choice.specs.inner.Plan.{plan_after}
 use Rattle.fiber_choice.proofs.HandedLaws.{tlcs, few_tracked, tracked_whole, after_size, after_asks, after_written, read_back}
 use borrow.Author.Rules.{rules}
 use Rattle.fiber_output.proofs.output.hash_after.Goals as goal
+use Rattle.fiber_output.proofs.output.hash_after.Goals.{then-p-n, else-p-n}
 
 pub put_state-size-requires : goal.put_state-size-requires
 put_state-size-requires c =
     let a = c.args in
     let k =
     after_asks a.h a.tracked.now a.remote.now a.local.now a.p _ c.one_mark-marks.ensures _ a.out.now c.requires.tracked_in_bounds
-    (⊎_elim (λ x. inl (x.0.taken, x.1)) (λ x. inr (x.0.left, x.1)) c.if-p-n.branch) in
-    record { h_bound = c.requires.h_bound.0; h_in_bounds = (omega (arith, few_tracked a.h a.tracked.now c.requires.tracked_len_bound.0), omega (arith, c.requires)); k_value = tracked_whole a.h a.tracked.now; remote_len = k.0; marks_in_bounds = (c.requires.h_bound.1, k.1) }
+    (elim c.if-p-n.branch [ then-p-n w ↦ inl (w.if-p-n.true, w.count-is) | else-p-n w ↦ inr (w.if-p-n.false, w.count-is) ]) in
+    record { h_bound = (c.requires.h_bound.0, (omega (arith, few_tracked a.h a.tracked.now c.requires.tracked_len_bound.0), omega (arith, c.requires))); h_in_bounds = tracked_whole a.h a.tracked.now; k_value = k.0; remote_len = c.requires.h_bound.1; marks_in_bounds = k.1 }
 
 pub slice_bounds-ckb_hash-end : goal.slice_bounds-ckb_hash-end
 slice_bounds-ckb_hash-end c =

@@ -9,58 +9,54 @@ use Rattle.fiber_choice.proofs.HandedLaws.{tlcs, few_tracked, tracked_whole, has
 use borrow.Author.Rules.{rules}
 use Rattle.fiber_output.proofs.output.put_joined.Goals as goal
 
--- the place behind the unlock
-placed : (c : goal.Joined-p) → c.if-p.at ≡ witness_len c.args.p.flag
-placed c = unlock_place _ _ (⊎_elim (λ x. inl (x.0.taken, x.1)) (λ x. inr (x.0.left, x.1)) c.if-p.branch)
-
 pub put_unlock-requires : goal.put_unlock-requires
 put_unlock-requires c =
     let a = c.args in
-    record { byte_bound = (c.requires.pair_whole.1.1, unlock_room a.h a.args.now a.tracked.now a.preimages.now a.remote.now a.local.now a.p c.requires.pair_whole.1.0 c.requires.tracked_len_bound.0 c.requires.tracked_len_bound.1 c.requires.p_in_bounds.0.0 a.out.now c.requires.p_in_bounds.1 _ (placed c)); pair_whole = c.requires.p_in_bounds.0.0 }
+    record { byte_bound = (c.requires.tracked_len_bound.1.1, unlock_room a.h a.args.now a.tracked.now a.preimages.now a.remote.now a.local.now a.p c.requires.tracked_len_bound.1.0 c.requires.h_bound.1.0 c.requires.h_bound.1.1 c.requires.pair_whole.0 a.out.now c.requires.p_in_bounds _ c.unlock_size-at.ensures); pair_whole = c.requires.pair_whole.0 }
 
 pub slice_bounds-hash_after-count : goal.slice_bounds-hash_after-count
 slice_bounds-hash_after-count c =
     let a = c.args in
-    omega (arith, after_room a.h a.args.now a.tracked.now a.preimages.now a.remote.now a.local.now a.p c.requires.pair_whole.1.0 c.requires.tracked_len_bound.0 c.requires.tracked_len_bound.1 c.requires.p_in_bounds.0.0 a.out.now c.requires.p_in_bounds.1 _ (placed c) _ c.put_unlock.ensures)
+    omega (arith, after_room a.h a.args.now a.tracked.now a.preimages.now a.remote.now a.local.now a.p c.requires.tracked_len_bound.1.0 c.requires.h_bound.1.0 c.requires.h_bound.1.1 c.requires.pair_whole.0 a.out.now c.requires.p_in_bounds _ c.unlock_size-at.ensures _ c.put_unlock.ensures)
 
 pub slice_bounds-hash_after-start : goal.slice_bounds-hash_after-start
 slice_bounds-hash_after-start c =
     let a = c.args in
-    omega (arith, after_room a.h a.args.now a.tracked.now a.preimages.now a.remote.now a.local.now a.p c.requires.pair_whole.1.0 c.requires.tracked_len_bound.0 c.requires.tracked_len_bound.1 c.requires.p_in_bounds.0.0 a.out.now c.requires.p_in_bounds.1 _ (placed c) _ c.put_unlock.ensures)
+    omega (arith, after_room a.h a.args.now a.tracked.now a.preimages.now a.remote.now a.local.now a.p c.requires.tracked_len_bound.1.0 c.requires.h_bound.1.0 c.requires.h_bound.1.1 c.requires.pair_whole.0 a.out.now c.requires.p_in_bounds _ c.unlock_size-at.ensures _ c.put_unlock.ensures)
 
 pub hash_after-hash-requires : goal.hash_after-hash-requires
 hash_after-hash-requires c =
     let a = c.args in
-    record { h_bound = c.requires.0; tracked_len_bound = (c.requires.pair_whole.0, c.requires.p_in_bounds.0.1); tracked_in_bounds = part_room a.h a.args.now a.tracked.now a.preimages.now a.remote.now a.local.now a.p c.requires.pair_whole.1.0 c.requires.tracked_len_bound.0 c.requires.tracked_len_bound.1 c.requires.p_in_bounds.0.0 a.out.now c.requires.p_in_bounds.1 _ (placed c) _ c.put_unlock.ensures }
+    record { h_bound = c.requires.h_bound; tracked_len_bound = (c.requires.tracked_len_bound.0, c.requires.pair_whole.1); tracked_in_bounds = part_room a.h a.args.now a.tracked.now a.preimages.now a.remote.now a.local.now a.p c.requires.tracked_len_bound.1.0 c.requires.h_bound.1.0 c.requires.h_bound.1.1 c.requires.pair_whole.0 a.out.now c.requires.p_in_bounds _ c.unlock_size-at.ensures _ c.put_unlock.ensures }
 
 pub slice_bounds-put_state-count : goal.slice_bounds-put_state-count
 slice_bounds-put_state-count c =
     let a = c.args in
-    omega (arith, before_room a.h a.args.now a.tracked.now a.preimages.now a.remote.now a.local.now a.p c.requires.pair_whole.1.0 c.requires.tracked_len_bound.0 c.requires.tracked_len_bound.1 c.requires.p_in_bounds.0.0 a.out.now c.requires.p_in_bounds.1 _ (placed c) _ c.put_unlock.ensures _ c.hash_after-hash.ensures.out_after)
+    omega (arith, before_room a.h a.args.now a.tracked.now a.preimages.now a.remote.now a.local.now a.p c.requires.tracked_len_bound.1.0 c.requires.h_bound.1.0 c.requires.h_bound.1.1 c.requires.pair_whole.0 a.out.now c.requires.p_in_bounds _ c.unlock_size-at.ensures _ c.put_unlock.ensures _ c.hash_after-hash.ensures.out_after)
 
 pub slice_bounds-put_state-start : goal.slice_bounds-put_state-start
 slice_bounds-put_state-start c =
     let a = c.args in
-    omega (arith, before_room a.h a.args.now a.tracked.now a.preimages.now a.remote.now a.local.now a.p c.requires.pair_whole.1.0 c.requires.tracked_len_bound.0 c.requires.tracked_len_bound.1 c.requires.p_in_bounds.0.0 a.out.now c.requires.p_in_bounds.1 _ (placed c) _ c.put_unlock.ensures _ c.hash_after-hash.ensures.out_after)
+    omega (arith, before_room a.h a.args.now a.tracked.now a.preimages.now a.remote.now a.local.now a.p c.requires.tracked_len_bound.1.0 c.requires.h_bound.1.0 c.requires.h_bound.1.1 c.requires.pair_whole.0 a.out.now c.requires.p_in_bounds _ c.unlock_size-at.ensures _ c.put_unlock.ensures _ c.hash_after-hash.ensures.out_after)
 
 pub put_state-size-requires : goal.put_state-size-requires
 put_state-size-requires c =
     let a = c.args in
-    let k = before_asks a.h a.args.now a.tracked.now a.preimages.now a.remote.now a.local.now a.p c.requires.pair_whole.1.0 c.requires.tracked_len_bound.0 c.requires.tracked_len_bound.1 c.requires.p_in_bounds.0.0 a.out.now c.requires.p_in_bounds.1 _ (placed c) _ c.put_unlock.ensures _ c.hash_after-hash.ensures.out_after _ c.no_marks-marks.ensures in
-    record { h_bound = c.requires.h_bound; h_in_bounds = (omega (arith, few_tracked a.h a.tracked.now c.requires.pair_whole.0), omega (arith, c.requires)); k_value = tracked_whole a.h a.tracked.now; remote_len = k.0; marks_in_bounds = (c.requires.tracked_len_bound, k.1) }
+    let k = before_asks a.h a.args.now a.tracked.now a.preimages.now a.remote.now a.local.now a.p c.requires.tracked_len_bound.1.0 c.requires.h_bound.1.0 c.requires.h_bound.1.1 c.requires.pair_whole.0 a.out.now c.requires.p_in_bounds _ c.unlock_size-at.ensures _ c.put_unlock.ensures _ c.hash_after-hash.ensures.out_after _ c.no_marks-marks.ensures in
+    record { h_bound = (c.requires.h_bound.0, (omega (arith, few_tracked a.h a.tracked.now c.requires.tracked_len_bound.0), omega (arith, c.requires))); h_in_bounds = tracked_whole a.h a.tracked.now; k_value = k.0; remote_len = c.requires.h_bound.1; marks_in_bounds = k.1 }
 
 pub overflow_add-at : goal.overflow_add-at
 overflow_add-at c =
     let a = c.args in
-    omega (arith, new_place a.h a.args.now a.tracked.now a.preimages.now a.remote.now a.local.now a.p c.requires.pair_whole.1.0 c.requires.tracked_len_bound.0 c.requires.tracked_len_bound.1 c.requires.p_in_bounds.0.0 a.out.now c.requires.p_in_bounds.1 _ (placed c) _ c.put_unlock.ensures _ c.hash_after-hash.ensures.out_after _ c.no_marks-marks.ensures _ _ c.put_state-size.ensures c.requires.pair_whole.0 c.requires.h_bound)
+    omega (arith, new_place a.h a.args.now a.tracked.now a.preimages.now a.remote.now a.local.now a.p c.requires.tracked_len_bound.1.0 c.requires.h_bound.1.0 c.requires.h_bound.1.1 c.requires.pair_whole.0 a.out.now c.requires.p_in_bounds _ c.unlock_size-at.ensures _ c.put_unlock.ensures _ c.hash_after-hash.ensures.out_after _ c.no_marks-marks.ensures _ _ c.put_state-size.ensures c.requires.tracked_len_bound.0 c.requires.h_bound.0)
 
 pub put_args-requires : goal.put_args-requires
 put_args-requires c =
     let a = c.args in
-    record { in_bounds = (c.requires.pair_whole.1.0, hash_length (plan_after (tlcs a.h a.tracked.now) a.remote.now a.local.now a.p) _ c.hash_after-hash.ensures.value); at_in_bounds = new_room a.h a.args.now a.tracked.now a.preimages.now a.remote.now a.local.now a.p c.requires.pair_whole.1.0 c.requires.tracked_len_bound.0 c.requires.tracked_len_bound.1 c.requires.p_in_bounds.0.0 a.out.now c.requires.p_in_bounds.1 _ (placed c) _ c.put_unlock.ensures _ c.hash_after-hash.ensures.out_after _ c.no_marks-marks.ensures _ _ c.put_state-size.ensures }
+    record { in_bounds = (c.requires.tracked_len_bound.1.0, hash_length (plan_after (tlcs a.h a.tracked.now) a.remote.now a.local.now a.p) _ c.hash_after-hash.ensures.value); at_in_bounds = new_room a.h a.args.now a.tracked.now a.preimages.now a.remote.now a.local.now a.p c.requires.tracked_len_bound.1.0 c.requires.h_bound.1.0 c.requires.h_bound.1.1 c.requires.pair_whole.0 a.out.now c.requires.p_in_bounds _ c.unlock_size-at.ensures _ c.put_unlock.ensures _ c.hash_after-hash.ensures.out_after _ c.no_marks-marks.ensures _ _ c.put_state-size.ensures }
 
 pub returns : goal.returns
 returns c =
     let a = c.args in
-    joined_puts a.h a.args.now a.tracked.now a.preimages.now a.remote.now a.local.now a.p c.requires.pair_whole.1.0 c.requires.tracked_len_bound.0 c.requires.tracked_len_bound.1 c.requires.p_in_bounds.0.0 a.out.now c.requires.p_in_bounds.1 _ (placed c) _ c.put_unlock.ensures _ c.hash_after-hash.ensures.out_after _ c.no_marks-marks.ensures _ _ c.put_state-size.ensures
+    joined_puts a.h a.args.now a.tracked.now a.preimages.now a.remote.now a.local.now a.p c.requires.tracked_len_bound.1.0 c.requires.h_bound.1.0 c.requires.h_bound.1.1 c.requires.pair_whole.0 a.out.now c.requires.p_in_bounds _ c.unlock_size-at.ensures _ c.put_unlock.ensures _ c.hash_after-hash.ensures.out_after _ c.no_marks-marks.ensures _ _ c.put_state-size.ensures
     _ _ c.hash_after-hash.ensures.value c.put_args.ensures
