@@ -1,5 +1,5 @@
 // The later settlement: the TLCs that stand after the witness's own unlocks are walked in order.
-ghost use Rattle.std.specs.Prelude.{◌≡◌, true, List, ℕ, ◌+◌, ◌*◌, ◌≤◌, ◌<◌, length, get_or, take};
+ghost use Rattle.std.specs.Prelude.{◌≡◌, cond, true, List, ℕ, ◌+◌, ◌*◌, ◌≤◌, ◌<◌, length, get_or, take};
 ghost use Rattle.fiber_types.specs.Records.{valid_hash_len};
 ghost use Rattle.fiber_witness.specs.inner.Strided.{behind_tlcs};
 ghost use Rattle.fiber_witness.specs.Update.{standing};
@@ -149,6 +149,13 @@ fn later_choice(scalars: Scalars, tlcs: &[u8], preimages: &[u8], tracked: &[u8],
     )
 }
 
+// The first of two shares with the flag, else the second.
+fn by_flag(flag: bool, first: [u8; 36], second: [u8; 36]) -> [u8; 36]
+    ensures { result ≡ cond flag first second }
+{
+    if flag { first } else { second }
+}
+
 // What follows the witness's own unlocks, of n TLCs: the rows before the walk, the walk, and what is handed out.
 fn later_state(
     scalars: Scalars,
@@ -173,8 +180,8 @@ fn later_state(
         out.old (standing scalars.h w.now n (marked marks)) (S.unsettled (marked marks) 0 n) remote local)
         result out.new }
 {
-    let ours = if scalars.for_remote { local } else { remote };
-    let other = if scalars.for_remote { remote } else { local };
+    let ours = by_flag(scalars.for_remote, local, remote);
+    let other = by_flag(scalars.for_remote, remote, local);
     let last = is_last(other);
     match later_ready(scalars, local_key, tracked, w, n, marks, ours) {
         Ready::Refused(number) => ChoiceAnswer::Refused { number, place: 0 },
