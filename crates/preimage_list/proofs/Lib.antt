@@ -1,4 +1,3 @@
 -- Laws of the definitions, which proofs cite.
 pub mod PreimageListLaws
 mod Search
-mod SizedHolds

@@ -5,13 +5,13 @@ use native.Mathlib.Omega.{arith}
 use mathlib.Core.Path.{◌≡◌, refl, sym, ap, subst, ◌∙◌}
 use mathlib.Core.Bool.{Bool, true, false, cond}
 use mathlib.Core.List.{List, [], ◌∷◌, ◌++◌, map, flat_map}
-use lib.ListN.{length, get_or, take, length-append, get_or-map}
+use lib.ListN.{length, get_or, take, length-append}
 use lib.Seq.{take_at, drop_at, take_all}
 use Rattle.fiber_choice.specs.Entries.{same, entries, find_first, tracked_hash, tracked_algorithm, pair_len, pair_hash, pair_preimage}
 use Rattle.fiber_choice.specs.Preimages.{digest, find_pair, counts_at}
 use Rattle.fiber_choice.specs.declared.kinds.Found.{Found}
 use Rattle.fiber_choice.specs.declared.kinds.Found.TheVariants.{At, None}
-use Rattle.preimage_list.specs.declared.Preimage.{Preimage}
+use Rattle.preimage_list.specs.declared.pair.Preimage.{Preimage}
 use Rattle.preimage_list.specs.PreimageList.{flat_pairs}
 use Rattle.fiber_choice.proofs.EntriesLaws.{entries_none, entries_append, find_none, find_more}
 use Rattle.fiber_choice.proofs.PreimagesLaws.{has_hash, find_by, counts_by}
@@ -23,9 +23,12 @@ find_in i (p ∷ ps) h =
     let next = find_in (i + 1) ps h in
     cond (same p.hash h) (At i) next
 
--- what stands past the end of a list of pairs
-abbrev pub no_pair : Preimage
-no_pair = record { hash = []; preimage = [] }
+-- the hash and the preimage of the pair at a place; past the end there are none
+abbrev pub hash_at : List Preimage → ℕ → List ℕ
+hash_at ps i = get_or (map (λ (p : Preimage). p.hash) ps) i []
+
+abbrev pub preimage_at : List Preimage → ℕ → List ℕ
+preimage_at ps i = get_or (map (λ (p : Preimage). p.preimage) ps) i []
 
 -- every pair's hash and preimage have 32 bytes
 pub record SizedPair (p : Preimage) : Type 0 where
@@ -35,6 +38,17 @@ pub record SizedPair (p : Preimage) : Type 0 where
 abbrev pub Sized : List Preimage → Type 0
 Sized [] = Unit {0}
 Sized (p ∷ ps) = SizedPair p × Sized ps
+
+-- they have, since they are arrays
+pub sized : (ps : List Preimage) → Sized ps
+sized [] = tt
+sized (p ∷ ps) = (record { hash_32 = p.hash_32; preimage_32 = p.preimage_32 }, sized ps)
+
+-- the hash of the pair at a place, as a list's element has it
+pub hash_at_is : (ps : List Preimage) (i : ℕ) (p : Preimage) → i < length ps → (get_or ps i p).hash ≡ hash_at ps i
+hash_at_is [] i p l = absurd (omega arith)
+hash_at_is (q ∷ ps) zero p l = refl
+hash_at_is (q ∷ ps) (suc i) p l = hash_at_is ps i p (omega arith)
 
 -- ---- the flat slice's entries
 
@@ -76,19 +90,19 @@ find_agrees ps h z = find_from 0 ps h z ∙ find_by (map bytes_of ps) h ∙ ap (
 -- ---- the preimages
 
 -- the preimage of a pair, read from its bytes; past the end there are none
-preimage_from : (ps : List Preimage) → Sized ps → (i : ℕ) → pair_preimage (bytes_of (get_or ps i no_pair)) ≡ (get_or ps i no_pair).preimage
+preimage_from : (ps : List Preimage) → Sized ps → (i : ℕ) → pair_preimage (get_or (map bytes_of ps) i []) ≡ preimage_at ps i
 preimage_from [] z i = refl
 preimage_from (p ∷ ps) z zero = pair_preimage_lem p z.0
 preimage_from (p ∷ ps) z (suc i) = preimage_from ps z.1 i
 
 -- at each place the flat slice's preimage is the pair's
-pub preimage_agrees : (ps : List Preimage) → Sized ps → (i : ℕ) → pair_preimage (get_or (entries pair_len (flat_pairs ps)) i []) ≡ (get_or ps i no_pair).preimage
+pub preimage_agrees : (ps : List Preimage) → Sized ps → (i : ℕ) → pair_preimage (get_or (entries pair_len (flat_pairs ps)) i []) ≡ preimage_at ps i
 preimage_agrees ps z i =
-    ap (λ (es : List (List ℕ)). pair_preimage (get_or es i [])) (entries_flat ps z) ∙ ap pair_preimage (get_or-map bytes_of ps i no_pair) ∙ preimage_from ps z i
+    ap (λ (es : List (List ℕ)). pair_preimage (get_or es i [])) (entries_flat ps z) ∙ preimage_from ps z i
 
 -- so a pair counts by its own preimage
 pub counts_agrees : (ps : List Preimage) → Sized ps → (t : List ℕ) (i : ℕ)
-    → counts_at (entries pair_len (flat_pairs ps)) t i ≡ same (digest (tracked_algorithm t) (get_or ps i no_pair).preimage) (tracked_hash t)
+    → counts_at (entries pair_len (flat_pairs ps)) t i ≡ same (digest (tracked_algorithm t) (preimage_at ps i)) (tracked_hash t)
 counts_agrees ps z t i =
     counts_by (entries pair_len (flat_pairs ps)) t i
     ∙ ap (λ (s : List ℕ). same (digest (tracked_algorithm t) s) (tracked_hash t)) (preimage_agrees ps z i)
@@ -118,5 +132,5 @@ within_from k (p ∷ ps) h i e = within_step (same p.hash h) k i (length ps) (fi
 
 -- the pair that the search names is one of the list, and its preimage is the one that the choice looks at in the flat slice
 pub found_preimage : (ps : List Preimage) (h : List ℕ) → Sized ps → (i : ℕ) → find_in 0 ps h ≡ At i
-    → (i < length ps) × (pair_preimage (get_or (entries pair_len (flat_pairs ps)) i []) ≡ (get_or ps i no_pair).preimage)
+    → (i < length ps) × (pair_preimage (get_or (entries pair_len (flat_pairs ps)) i []) ≡ preimage_at ps i)
 found_preimage ps h z i e = (omega (arith, within_from 0 ps h i e), preimage_agrees ps z i)

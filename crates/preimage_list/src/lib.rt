@@ -3,6 +3,8 @@
 // list; no crate of the core uses it, the program `forms` runs it. Uses fiber_first, and types and definitions of fiber_choice.
 #![tactic(auto)]
 
+mod pair;
+
 ghost use Rattle.std.specs.Prelude.{◌≡◌, cond, ltb};
 ghost use Rattle.fiber_choice.specs.Entries as S;
 ghost use Rattle.fiber_choice.specs.declared.kinds.Found.TheVariants as FoundCase;
@@ -11,12 +13,7 @@ ghost use Rattle.fiber_choice.specs.Preimages.{find_pair};
 
 use fiber_choice::kinds::Found;
 use fiber_first::entries::same;
-
-#[derive(Clone, Copy)]
-pub struct Preimage {
-    pub hash: [u8; 32],
-    pub preimage: [u8; 32],
-}
+pub use pair::Preimage;
 
 // Where a search ends that has come to i: at i, if this is what is looked for, and else where it would have ended.
 fn cut(a: [u8; 32], b: [u8; 32], i: usize, end: usize) -> usize

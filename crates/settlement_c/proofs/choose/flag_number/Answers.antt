@@ -1,0 +1,12 @@
+-- One way each.
+use Rattle.settlement_c.specs.Choose.{flag_number}
+use borrow.Author.Rules.{rules}
+use Rattle.settlement_c.proofs.choose.flag_number.Goals as goal
+
+pub returns-then-flag : goal.returns-then-flag
+unfolding flag_number
+returns-then-flag c = rw c.if-flag.true
+
+pub returns-else-flag : goal.returns-else-flag
+unfolding flag_number
+returns-else-flag c = rw c.if-flag.false
