@@ -153,7 +153,7 @@ unfolding trace final flat_map
 onward {rs = rs} {b = b} g no_call = record { calls = refl; state = refl; observed = refl; good = g; moves = moved_none rs b }
 onward {h} {rs} {b} g (one_more {c = c} {cs = cs} of more) =
     let f = follows h rs b c g of in
-    let n = subst₂ (λ (s : List ℕ) (o : Observed). Onward h rs (book_transition b c).next s o cs) (sym (ap (λ (r : Transition (List ℕ) OutCall). r.next) f.same)) (sym f.next) (onward f.good more) in
+    let n = subst₂ (λ (s : List ℕ) (o : Observed). Onward h rs (book_transition b c).next s o cs) (sym (ap (λ (r : Transition (List ℕ) OutCall). r.next) f.same)) (sym f.next) (onward {b = (book_transition b c).next} f.good more) in
     record {
       calls = ap₂ ◌∷◌ f.same n.calls;
       state = n.state;

@@ -3,7 +3,7 @@
 use Prim.Native.Nat.{ℕ, zero, suc, ◌+◌, ◌≤◌, ◌<◌}
 use native.Mathlib.Nat.{add-zero, zero-add}
 use native.Mathlib.Omega.{arith}
-use mathlib.Core.Path.{◌≡◌, refl, sym, ap, ◌∙◌}
+use mathlib.Core.Path.{◌≡◌, refl, sym, ap, ◌∙◌, subst}
 use mathlib.Core.Bool.{Bool, true, false, cond, not, false≢true, ◌||◌, or-true}
 use mathlib.Core.List.{List, [], ◌∷◌, map}
 use lib.ListN.{length, get_or}
@@ -109,11 +109,15 @@ unfolding unsettled
 without_at settled i [] j h m = absurd (omega arith)
 without_at settled i (f ∷ fs) zero h m =
     let m' : member i settled ≡ false = rw add-zero at m in
-    simp (add-zero, member_more, m', eq-eqb i i refl, unsettled_below settled (i + 1) fs i (omega arith)) here
+    let here' : Without f (unsettled settled i (f ∷ fs)) (unsettled (i ∷ settled) i (f ∷ fs)) =
+    simp (member_more, m', eq-eqb i i refl, unsettled_below settled (i + 1) fs i (omega arith)) here in
+    subst (λ (k : ℕ). Without f (unsettled settled i (f ∷ fs)) (unsettled (k ∷ settled) i (f ∷ fs))) (sym (add-zero i)) here'
 without_at settled i (f ∷ fs) (suc j) h m =
     let e : i + suc j ≡ i + 1 + j = omega arith in
     let m' : member (i + 1 + j) settled ≡ false = rw e at m in
-    simp (e, member_more, ne_eqb i (i + 1 + j) (omega arith)) (go (member i settled) (without_at settled (i + 1) fs j (omega arith) m'))
+    let more' : Without (get_or fs j 0) (unsettled settled i (f ∷ fs)) (unsettled ((i + 1 + j) ∷ settled) i (f ∷ fs)) =
+    simp (member_more, ne_eqb i (i + 1 + j) (omega arith)) (go (member i settled) (without_at settled (i + 1) fs j (omega arith) m')) in
+    subst (λ (k : ℕ). Without (get_or fs j 0) (unsettled settled i (f ∷ fs)) (unsettled (k ∷ settled) i (f ∷ fs))) (sym e) more'
   where
     go : (b : Bool) {x : ℕ} {ys zs : List ℕ} → Without x ys zs → Without x (cond b ys (f ∷ ys)) (cond b zs (f ∷ zs))
     go true w = w
