@@ -98,8 +98,7 @@ fn answer_choice(answer: &mut [u8], choice: ChoiceAnswer) -> u64
 }
 
 // Chooses an unlock. With is_later the settlement is a later one, and its witness is looked at.
-#[unsafe(no_mangle)]
-pub extern "C" fn fiber_settlement_choose(
+pub fn fiber_settlement_choose(
     h: u64,
     for_remote: u8,
     is_later: u8,

@@ -8,8 +8,7 @@ use fiber_types::tlc::Amount;
 use watchtower::first;
 
 // The record of one settlement TLC.
-#[unsafe(no_mangle)]
-pub extern "C" fn fiber_settlement_tlc_record(
+pub fn fiber_settlement_tlc_record(
     h: u64,
     for_remote: u8,
     tlc: &[u8],
@@ -30,8 +29,7 @@ pub extern "C" fn fiber_settlement_tlc_record(
 }
 
 // The first state.
-#[unsafe(no_mangle)]
-pub extern "C" fn fiber_settlement_first_state(
+pub fn fiber_settlement_first_state(
     h: u64,
     for_remote: u8,
     local_low: u64,

@@ -24,32 +24,28 @@ pub const EXPIRY_ANSWER: usize = 32;
 pub const KEY_HASH_ANSWER: usize = 36;
 
 // The number of the interface, for a host to compare with its header's.
-#[unsafe(no_mangle)]
-pub extern "C" fn fiber_settlement_abi() -> u64
+pub fn fiber_settlement_abi() -> u64
     ensures { result ≡ S.abi }
 {
     ABI
 }
 
 // CKB's hash of bytes.
-#[unsafe(no_mangle)]
-pub extern "C" fn fiber_settlement_ckb_hash(bytes: &[u8], out: &mut [u8; 32])
+pub fn fiber_settlement_ckb_hash(bytes: &[u8], out: &mut [u8; 32])
     ensures { out.new ≡ ckb_hash bytes.now }
 {
     *out = fiber_types::blake2b::ckb_hash(bytes);
 }
 
 // SHA-256 of bytes.
-#[unsafe(no_mangle)]
-pub extern "C" fn fiber_settlement_sha256(bytes: &[u8], out: &mut [u8; 32])
+pub fn fiber_settlement_sha256(bytes: &[u8], out: &mut [u8; 32])
     ensures { out.new ≡ Sha256.sha256 bytes.now }
 {
     *out = fiber_types::sha256::sha256(bytes);
 }
 
 // An epoch's three fields scaled by a fraction.
-#[unsafe(no_mangle)]
-pub extern "C" fn fiber_settlement_scale(
+pub fn fiber_settlement_scale(
     number: u64,
     index: u64,
     length: u64,
@@ -74,8 +70,7 @@ pub extern "C" fn fiber_settlement_scale(
 }
 
 // The due test on nine fields.
-#[unsafe(no_mangle)]
-pub extern "C" fn fiber_settlement_is_due(
+pub fn fiber_settlement_is_due(
     header_number: u64,
     header_index: u64,
     header_length: u64,
@@ -116,8 +111,7 @@ pub extern "C" fn fiber_settlement_is_due(
 }
 
 // The expiry that a since value holds.
-#[unsafe(no_mangle)]
-pub extern "C" fn fiber_settlement_expiry(since: u64, answer: &mut [u8]) -> u64
+pub fn fiber_settlement_expiry(since: u64, answer: &mut [u8]) -> u64
     ensures { Leaves (S.expiry_call since answer.old) result [] answer.new }
 {
     if answer.len() < EXPIRY_ANSWER {
@@ -130,8 +124,7 @@ pub extern "C" fn fiber_settlement_expiry(since: u64, answer: &mut [u8]) -> u64
 }
 
 // The hash of a public key.
-#[unsafe(no_mangle)]
-pub extern "C" fn fiber_settlement_key_hash(key: &[u8], answer: &mut [u8]) -> u64
+pub fn fiber_settlement_key_hash(key: &[u8], answer: &mut [u8]) -> u64
     ensures { Leaves (S.key_hash_call key.now answer.old) result [] answer.new }
 {
     if answer.len() < KEY_HASH_ANSWER {

@@ -12,8 +12,7 @@ use watchtower::{update, witness};
 pub const READ_ANSWER: usize = 48;
 
 // Reads a witness w of a channel whose hashes have h bytes.
-#[unsafe(no_mangle)]
-pub extern "C" fn fiber_settlement_read(h: u64, w: &[u8], answer: &mut [u8]) -> u64
+pub fn fiber_settlement_read(h: u64, w: &[u8], answer: &mut [u8]) -> u64
     ensures { Leaves (S.read_call h w.now answer.old) result [] answer.new }
 {
     if answer.len() < READ_ANSWER {
@@ -39,8 +38,7 @@ pub extern "C" fn fiber_settlement_read(h: u64, w: &[u8], answer: &mut [u8]) -> 
 }
 
 // Updates a witness w of a channel whose hashes have h bytes: the state left goes to the front of out.
-#[unsafe(no_mangle)]
-pub extern "C" fn fiber_settlement_update(
+pub fn fiber_settlement_update(
     h: u64,
     w: &[u8],
     out: &mut [u8],
