@@ -1,6 +1,6 @@
-// Runs the two forms that are proved by hand beside what the core uses, on the inputs that `replay` has: the reader as a struct beside the cursor, and
+// Runs the two forms beside what the core uses, on the inputs that `replay` has: the reader as a struct beside the cursor, and
 // stored preimages as a list of structs beside the flat slice. Prints how many answers agree and how many differ; the file `stdout` has no difference.
-// A program; uses the two forms, the upper face, what is below it, test_lines, and the toolchain's libraries for files.
+// A program; uses the two forms, the upper face, what is below it, test_lines, and std for the file.
 #![tactic(auto)]
 
 ghost use Rattle.std.specs.Prelude.{◌≡◌, ◌≤◌, length, take};
@@ -13,9 +13,9 @@ use fiber_choice::kinds::Found;
 use fiber_step::preimage;
 use fiber_types::layout::{PAIR, TRACKED_FIXED};
 use fiber_types::tlc::valid_hash_len;
-use libc::STDOUT_FILENO;
 use preimage_list::Preimage;
 use std::num::{wrapping_add_u64, wrapping_add_usize};
+use std::{fs, io};
 use test_lines::{find, number, unhex};
 use watchtower::witness;
 use watchtower::witness::WitnessRead;
@@ -131,7 +131,7 @@ fn pairs_of(s: &[u8]) -> [Preimage; 16] {
     list
 }
 
-// The search among the first n of 16 records. Lends a slice of structs, so it is proved by hand.
+// The search among the first n of 16 records.
 fn found_in_list(list: [Preimage; 16], n: usize, hash: [u8; 32]) -> Found
     requires { n ≤ 16 }
     ensures { result ≡ find_pair (entries pair_len (flat_pairs (take n list))) hash }
@@ -231,34 +231,17 @@ fn all(s: &[u8]) -> Counts {
     c
 }
 
-fn print(name: &[u8], c: Count) {
-    io::write_all(STDOUT_FILENO, name);
-    io::print_decimal(STDOUT_FILENO, c.agree);
-    io::write_all(STDOUT_FILENO, b" agree ");
-    io::print_decimal(STDOUT_FILENO, c.differ);
-    io::write_all(STDOUT_FILENO, b" differ\n");
+fn print(rt: &impl Print, name: &str, c: Count) -> io::Result<()> {
+    let agree = c.agree;
+    let differ = c.differ;
+    println!(rt; "{name} {agree} agree {differ} differ")
 }
 
-// Longer than the list.
-fn text_buffer() -> [u8; 500_000]
-    ensures { 500000 ≡ length result }
-{
-    [0; 500_000]
-}
-
-fn main() {
-    let path = b"inputs.txt";
-    let file = os::open_read(path);
-    if file < 0 {
-        os::fail(path);
-        return;
-    }
-    let mut text = text_buffer();
-    let n = io::read_full(file, &mut text);
-    libc::close(file);
-    let c = all(&text[..n]);
+fn main(rt: HostRuntime) -> io::Result<()> {
+    let text = fs::read(&rt, "inputs.txt")?;
+    let c = all(&text);
     let readers = c.readers;
     let searches = c.searches;
-    print(b"readers ", readers);
-    print(b"pairs ", searches);
+    print(&rt, "readers", readers)?;
+    print(&rt, "pairs", searches)
 }

@@ -2,14 +2,13 @@
 //
 // The list's top says how it was made and what a line holds. Each case is one call of an export of the C interface, and
 // status, answer buffer and output buffer are compared whole, so that a byte written where none belongs is seen.
-// A program; uses the C interface, fiber_bytes, fiber_first, test_lines, and the toolchain's libraries for files.
+// A program; uses the C interface, fiber_bytes, fiber_first, test_lines, and std for the file.
 #![tactic(auto)]
 
 ghost use Rattle.std.specs.Prelude.{◌≡◌, length};
 
 use fiber_bytes::{le64, part_of, put, put_le64};
 use fiber_first::entries::same;
-use libc::STDOUT_FILENO;
 use settlement_c::choose::fiber_settlement_choose;
 use settlement_c::first::fiber_settlement_first_state;
 use settlement_c::lower::{
@@ -18,6 +17,7 @@ use settlement_c::lower::{
 };
 use settlement_c::settlement::{fiber_settlement_read, fiber_settlement_update};
 use std::num::{wrapping_add_u64, wrapping_add_usize, wrapping_sub_u64};
+use std::{fs, io};
 use test_lines::{find, number, unhex};
 
 // In a packed line the i-th input is at 8 i: a number, or where the bytes of a byte string start, all of which stand here.
@@ -263,44 +263,42 @@ fn agrees(kind: u8, line: &[u8]) -> bool {
 }
 
 // Ends the output's line of a kind.
-fn print(t: Tally) {
+fn print(rt: &impl Print, t: Tally) -> io::Result<()> {
     if t.run == 0 {
-        return;
+        return Ok(());
     }
-    io::write_all(STDOUT_FILENO, b": ");
-    io::print_decimal(STDOUT_FILENO, t.agree);
-    io::write_all(STDOUT_FILENO, b" of ");
-    io::print_decimal(STDOUT_FILENO, t.run);
-    io::write_all(STDOUT_FILENO, b" agree\n");
+    let run = t.run;
+    let agree = t.agree;
+    println!(rt; ": {agree} of {run} agree")
 }
 
 // Counts a line. The lines of a kind stand together: the first of them starts a line of the output with its kind.
-fn counted(t: Tally, line: &[u8]) -> Tally {
+fn counted(rt: &impl Print, t: Tally, line: &[u8]) -> io::Result<Tally> {
     if line.len() == 0 {
-        return t;
+        return Ok(t);
     }
     let kind = line[0];
     if kind == b'#' {
-        return t;
+        return Ok(t);
     }
     let agree = agrees(kind, line) as u64;
     if kind == t.kind {
-        return Tally {
+        return Ok(Tally {
             kind,
             run: wrapping_add_u64(t.run, 1),
             agree: wrapping_add_u64(t.agree, agree),
-        };
+        });
     }
-    print(t);
-    io::write_all(STDOUT_FILENO, part_of(line, 0, find(line, 0, b' ')));
-    Tally {
+    print(rt, t)?;
+    rt.write_all(part_of(line, 0, find(line, 0, b' ')))?;
+    Ok(Tally {
         kind,
         run: 1,
         agree,
-    }
+    })
 }
 
-fn all(s: &[u8]) {
+fn all(rt: &impl Print, s: &[u8]) -> io::Result<()> {
     let mut t = Tally {
         kind: 0,
         run: 0,
@@ -309,28 +307,13 @@ fn all(s: &[u8]) {
     let mut at = 0;
     while at < s.len() {
         let end = find(s, at, b'\n');
-        t = counted(t, part_of(s, at, end - at));
+        t = counted(rt, t, part_of(s, at, end - at))?;
         at = end + 1;
     }
-    print(t);
+    print(rt, t)
 }
 
-// Longer than the list.
-fn text_buffer() -> [u8; 1_000_000]
-    ensures { 1000000 ≡ length result }
-{
-    [0; 1_000_000]
-}
-
-fn main() {
-    let path = b"oracle.txt";
-    let file = os::open_read(path);
-    if file < 0 {
-        os::fail(path);
-        return;
-    }
-    let mut text = text_buffer();
-    let n = io::read_full(file, &mut text);
-    libc::close(file);
-    all(&text[..n]);
+fn main(rt: HostRuntime) -> io::Result<()> {
+    let text = fs::read(&rt, "oracle.txt")?;
+    all(&rt, &text)
 }

@@ -2,14 +2,14 @@
 //
 // A line is: the hash's name, a message in hexadecimal ('-' for no bytes), how often the message is repeated, and the
 // digest in hexadecimal. Empty lines, and lines that start with '#', are passed over.
-// A program; uses the lower face, fiber_bytes, test_lines, and the toolchain's libraries for files.
+// A program; uses the lower face, fiber_bytes, test_lines, and std for the file.
 #![tactic(auto)]
 
 ghost use Rattle.std.specs.Prelude.{◌≡◌, ◌<◌, ◌≤◌, length};
 
 use fiber_bytes::part_of;
-use libc::STDOUT_FILENO;
 use std::num::wrapping_add_u64;
+use std::{fs, io};
 use test_lines::{agrees, find, number, unhex};
 
 #[derive(Clone, Copy)]
@@ -157,15 +157,13 @@ fn all(s: &[u8], out: &mut [u8]) -> Counts {
     c
 }
 
-fn print(name: &[u8], c: Count) {
-    io::write_all(STDOUT_FILENO, name);
-    io::print_decimal(STDOUT_FILENO, c.agree);
-    io::write_all(STDOUT_FILENO, b" of ");
-    io::print_decimal(STDOUT_FILENO, c.run);
-    io::write_all(STDOUT_FILENO, b" agree\n");
+fn print(rt: &impl Print, name: &str, c: Count) -> io::Result<()> {
+    let run = c.run;
+    let agree = c.agree;
+    println!(rt; "{name}: {agree} of {run} agree")
 }
 
-// Room for the list, and for the longest message. The `ensures` gives only the length, which lending the array as a
+// Room for the longest message. The `ensures` gives only the length, which lending the array as a
 // slice needs.
 fn buffer() -> [u8; 1_000_000]
     ensures { 1000000 ≡ length result }
@@ -173,22 +171,14 @@ fn buffer() -> [u8; 1_000_000]
     [0; 1_000_000]
 }
 
-fn main() {
-    let path = b"vectors.txt";
-    let file = os::open_read(path);
-    if file < 0 {
-        os::fail(path);
-        return;
-    }
-    let mut text = buffer();
-    let n = io::read_full(file, &mut text);
-    libc::close(file);
+fn main(rt: HostRuntime) -> io::Result<()> {
+    let text = fs::read(&rt, "vectors.txt")?;
     let mut out = buffer();
-    let c = all(&text[..n], &mut out);
+    let c = all(&text, &mut out);
     let blake2b = c.blake2b;
     let ckb = c.ckb;
     let sha256 = c.sha256;
-    print(b"blake2b-512: ", blake2b);
-    print(b"ckb: ", ckb);
-    print(b"sha256: ", sha256);
+    print(&rt, "blake2b-512", blake2b)?;
+    print(&rt, "ckb", ckb)?;
+    print(&rt, "sha256", sha256)
 }

@@ -1,2 +1,0 @@
--- What proofs of walks cite.
-pub mod Lending
