@@ -16,7 +16,6 @@ use Rattle.fiber_bytes.proofs.CaseLaws.{by_each}
 use Rattle.fiber_bytes.proofs.BytesLaws.{part_length, sets_append, sets_then, sets_fill, le_bytes_length}
 use Rattle.fiber_types.specs.declared.answer.Written.{Written}
 use Rattle.fiber_types.specs.declared.answer.Written.TheVariants as WrittenCase
-use Rattle.fiber_types.specs.declared.key.KeyAnswer.TheVariants.{Refused}
 use Rattle.fiber_types.specs.declared.key.KeyHash.{KeyHash}
 use Rattle.fiber_types.specs.declared.tlc.Amount.{Amount}
 use Rattle.fiber_types.specs.declared.tlc.Tlc.{Tlc}

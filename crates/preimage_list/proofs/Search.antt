@@ -9,13 +9,13 @@ use mathlib.Core.Bool.{Bool, true, false, cond}
 use mathlib.Core.Logic.{◌⊎◌, inl, inr}
 use mathlib.Core.List.{List, [], ◌∷◌}
 use lib.Dec.{ltb}
-use lib.ListN.{length, get_or, drop, drop_of_length-le}
+use lib.ListN.{length, drop, drop_of_length-le}
 use borrow.Author.Tests.{lt-ltb, le-ltb}
 use Rattle.fiber_choice.specs.Entries.{same}
 use Rattle.fiber_choice.specs.declared.kinds.Found.{Found}
 use Rattle.fiber_choice.specs.declared.kinds.Found.TheVariants.{At, None}
 use Rattle.preimage_list.specs.declared.pair.Preimage.{Preimage}
-use Rattle.preimage_list.proofs.PreimageListLaws.{find_in, hash_at, hash_at_is}
+use Rattle.preimage_list.proofs.PreimageListLaws.{find_in, hash_at}
 
 -- the invariant: n is the length, F the answer, and G what the search from i on gives
 abbrev Held : ℕ → Found → Found → ℕ → ℕ → Type 0

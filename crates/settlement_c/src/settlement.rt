@@ -38,12 +38,7 @@ pub fn fiber_settlement_read(h: u64, w: &[u8], answer: &mut [u8]) -> u64
 }
 
 // Updates a witness w of a channel whose hashes have h bytes: the state left goes to the front of out.
-pub fn fiber_settlement_update(
-    h: u64,
-    w: &[u8],
-    out: &mut [u8],
-    answer: &mut [u8],
-) -> u64
+pub fn fiber_settlement_update(h: u64, w: &[u8], out: &mut [u8], answer: &mut [u8]) -> u64
     ensures { Leaves (S.update_call h w.now out.old answer.old) result out.new answer.new }
 {
     if answer.len() < UPDATE_ANSWER {

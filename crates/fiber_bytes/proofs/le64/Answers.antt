@@ -1,6 +1,5 @@
 -- Nothing at the end, eight whole bytes, or the last few.
 use Rattle.fiber_bytes.proofs.BytesLaws.{le_none}
-use borrow.Author.Rules.{rules}
 use Rattle.fiber_bytes.proofs.le64.Goals as goal
 
 pub returns-then-s-at : goal.returns-then-s-at

@@ -1,14 +1,8 @@
 -- From the last byte down, each put below the number so far.
-use Prim.Native.Nat.{ℕ, ◌+◌, ◌-◌, ◌^◌, ◌≤◌, ◌<◌}
-use mathlib.Core.Path.{◌≡◌, sym, ◌∙◌, ap}
-use native.Mathlib.Omega.{arith}
-use native.Mathlib.Nat.{sub_self}
-use lib.Dec.{lit<}
-use lib.ListN.{length, drop, length-drop}
-use lib.Seq.{drop-length, take_all}
+use Prim.Native.Nat.{◌-◌, ◌^◌, ◌≤◌, ◌<◌}
+use mathlib.Core.Path.{◌≡◌}
+use lib.ListN.{length, drop}
 use Rattle.fiber_bytes.specs.Bytes.{le}
-use Rattle.fiber_bytes.proofs.BytesLaws.{grow, byte_more, fits}
-use borrow.Author.Rules.{rules}
 use Rattle.fiber_bytes.proofs.le64_end.Given as goal
 
 abbrev pub invariant-loop-i : goal.invariant-loop-i

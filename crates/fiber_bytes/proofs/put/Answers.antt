@@ -1,8 +1,6 @@
 -- Bytes are stored one after the other; those without room change nothing.
-use Prim.Native.Nat.{◌+◌, ◌-◌, ◌≤◌}
-use mathlib.Core.Path.{◌≡◌, refl, ◌∙◌}
-use lib.ListN.{length, drop, length-set}
-use lib.Seq.{sets}
+use mathlib.Core.Path.{refl, ◌∙◌}
+use lib.ListN.{length-set}
 use native.Mathlib.Nat.{add-zero}
 use Rattle.fiber_bytes.proofs.BytesLaws.{put_more, put_end}
 use borrow.Author.Rules.{rules}

@@ -1,11 +1,8 @@
 -- Bytes are stored one after the other; those without room change nothing.
 use Prim.Native.Nat.{◌+◌, ◌-◌, ◌≤◌}
-use mathlib.Core.Path.{◌≡◌, refl, ◌∙◌}
-use lib.ListN.{length, drop, length-set}
+use mathlib.Core.Path.{◌≡◌}
+use lib.ListN.{length, drop}
 use lib.Seq.{sets}
-use native.Mathlib.Nat.{add-zero}
-use Rattle.fiber_bytes.proofs.BytesLaws.{put_more, put_end}
-use borrow.Author.Rules.{rules}
 use Rattle.fiber_bytes.proofs.put.Given as goal
 
 abbrev pub invariant-loop-i : goal.invariant-loop-i

@@ -1,6 +1,5 @@
 -- Two halves, one behind the other.
 use Rattle.fiber_bytes.proofs.BytesLaws.{halves}
-use borrow.Author.Rules.{rules}
 use Rattle.fiber_bytes.proofs.put_le32_in.Goals as goal
 
 pub returns : goal.returns

@@ -1,10 +1,7 @@
 -- Bytes are stored one after the other; those without room change nothing.
-use Prim.Native.Nat.{◌+◌, ◌-◌, ◌≤◌}
-use mathlib.Core.Path.{◌≡◌, refl, ◌∙◌}
-use lib.ListN.{length, length-set}
-use lib.Seq.{sets}
+use mathlib.Core.Path.{refl, ◌∙◌}
+use lib.ListN.{length-set}
 use native.Mathlib.Nat.{add-zero}
-use Rattle.fiber_bytes.specs.Bytes.{le_bytes}
 use Rattle.fiber_bytes.proofs.BytesLaws.{put_byte, put_byte_end}
 use borrow.Author.Rules.{rules}
 use Rattle.fiber_bytes.proofs.put_le64_end.Goals as goal

@@ -1,12 +1,9 @@
 -- Bytes are stored one after the other; those without room change nothing.
 use Prim.Native.Nat.{◌+◌, ◌-◌, ◌≤◌}
-use mathlib.Core.Path.{◌≡◌, refl, ◌∙◌}
-use lib.ListN.{length, length-set}
+use mathlib.Core.Path.{◌≡◌}
+use lib.ListN.{length}
 use lib.Seq.{sets}
-use native.Mathlib.Nat.{add-zero}
 use Rattle.fiber_bytes.specs.Bytes.{le_bytes}
-use Rattle.fiber_bytes.proofs.BytesLaws.{put_byte, put_byte_end}
-use borrow.Author.Rules.{rules}
 use Rattle.fiber_bytes.proofs.put_le64_end.Given as goal
 
 abbrev pub invariant-loop-i : goal.invariant-loop-i

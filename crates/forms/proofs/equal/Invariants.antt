@@ -1,5 +1,5 @@
 -- Each turn looks at the next number.
-use Rattle.std.proofs.Common.{◌-◌, ◌≤◌, rules}
+use Rattle.std.proofs.Common.{◌-◌, ◌≤◌}
 use Rattle.forms.proofs.equal.Given as goal
 
 abbrev pub invariant-loop-i : goal.invariant-loop-i

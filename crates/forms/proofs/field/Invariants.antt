@@ -1,5 +1,5 @@
 -- Each turn goes on behind a field.
-use Rattle.std.proofs.Common.{◌-◌, ◌≤◌, length, rules}
+use Rattle.std.proofs.Common.{◌-◌, ◌≤◌, length}
 use Rattle.forms.proofs.field.Given as goal
 
 abbrev pub invariant-loop-at : goal.invariant-loop-at

@@ -1,6 +1,5 @@
 -- Each turn goes on behind a tracked TLC, which has at most 130 bytes.
-use Rattle.std.proofs.Common.{◌-◌, ◌≤◌, length, sym, ◌∙◌, rules}
-use borrow.Author.Tests.{not-false}
+use Rattle.std.proofs.Common.{sym, ◌∙◌}
 use Rattle.fiber_types.proofs.RecordsLaws.{hash_len_small}
 use Rattle.forms.proofs.searched.Goals as goal
 

@@ -1,7 +1,5 @@
 -- Each turn goes on behind a tracked TLC, which has at most 130 bytes.
-use Rattle.std.proofs.Common.{◌-◌, ◌≤◌, length, sym, ◌∙◌, rules}
-use borrow.Author.Tests.{not-false}
-use Rattle.fiber_types.proofs.RecordsLaws.{hash_len_small}
+use Rattle.std.proofs.Common.{◌-◌, ◌≤◌, length}
 use Rattle.forms.proofs.searched.Given as goal
 
 abbrev pub invariant-loop-at : goal.invariant-loop-at

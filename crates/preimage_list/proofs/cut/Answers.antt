@@ -1,7 +1,6 @@
 -- By what `same` ensures.
 use mathlib.Core.Path.{sym, ◌∙◌, ap}
 use mathlib.Core.Bool.{Bool, cond}
-use borrow.Author.Rules.{rules}
 use Rattle.preimage_list.proofs.cut.Goals as goal
 
 pub returns-then-same : goal.returns-then-same

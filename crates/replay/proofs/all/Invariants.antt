@@ -1,5 +1,5 @@
 -- Each turn goes on behind the end of a line.
-use Rattle.std.proofs.Common.{◌-◌, ◌≤◌, length, rules}
+use Rattle.std.proofs.Common.{◌-◌, length}
 use Rattle.replay.proofs.all.Given as goal
 
 abbrev pub decreases-loop-at : goal.decreases-loop-at

@@ -2,11 +2,8 @@
 -- Twenty hold every number of 64 bits, so the count ends there at the latest.
 use Prim.Native.Nat.{◌+◌, ◌-◌, ◌^◌, ◌≤◌, ◌<◌}
 use mathlib.Core.Path.{◌≡◌}
-use native.Mathlib.Omega.{arith}
 use lib.ListN.{length}
 use Rattle.report.specs.Report.{digits_within, decimal}
-use Rattle.report.proofs.ReportLaws.{count_start, count_more, count_end}
-use borrow.Author.Rules.{rules}
 use Rattle.report.proofs.count_digits.Given as goal
 
 abbrev pub invariant-loop-rest : goal.invariant-loop-rest

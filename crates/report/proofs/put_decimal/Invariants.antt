@@ -1,12 +1,11 @@
 -- What is left to write, the digits before those that were found, gives what the whole gives:
 -- a store behind them goes before them too.
 use Prim.Native.Nat.{◌≤◌}
-use mathlib.Core.Path.{◌≡◌, refl, ap, ◌∙◌}
+use mathlib.Core.Path.{◌≡◌}
 use lib.ListN.{length}
 use lib.Seq.{sets}
 use Rattle.report.specs.Report.{decimal}
-use Rattle.report.proofs.ReportLaws.{lowest, lowest_decimal, decimal_more, decimal_end}
-use borrow.Author.Rules.{rules}
+use Rattle.report.proofs.ReportLaws.{lowest}
 use Rattle.report.proofs.put_decimal.Given as goal
 
 abbrev pub invariant-loop-i : goal.invariant-loop-i

@@ -1,14 +1,11 @@
 -- What is left to write, from here, gives what the whole gives:
 -- the bytes from the next one on, or those before the one that was written last.
 use Prim.Native.Nat.{◌+◌, ◌-◌, ◌*◌, ◌≤◌}
-use mathlib.Core.Path.{◌≡◌, refl, ◌∙◌}
-use mathlib.Core.Logic.{inl, inr, ⊎_elim}
-use native.Mathlib.Omega.{arith}
+use mathlib.Core.Path.{◌≡◌}
 use lib.ListN.{length}
 use lib.Seq.{sets}
 use Rattle.report.specs.inner.Hex.{hex_by}
-use Rattle.report.proofs.ReportLaws.{hex_left, by_length, by_start, by_more, by_within, by_end}
-use borrow.Author.Rules.{rules}
+use Rattle.report.proofs.ReportLaws.{hex_left}
 use Rattle.report.proofs.put_hex.Given as goal
 
 abbrev pub invariant-loop-i : goal.invariant-loop-i

@@ -6,7 +6,6 @@ use lib.ListN.{length}
 use lib.Seq.{length-sets}
 use Rattle.report.specs.Report.{hex}
 use Rattle.report.proofs.ReportLaws.{hex_byte}
-use borrow.Author.Rules.{rules}
 use Rattle.report.proofs.put_hex_byte.Goals as goal
 
 pub returns : goal.returns

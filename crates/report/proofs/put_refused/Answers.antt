@@ -2,7 +2,6 @@
 -- A number has 20 digits at most, so every place is small.
 use native.Mathlib.Omega.{arith}
 use Rattle.report.proofs.ReportLaws.{refused_text_lem}
-use borrow.Author.Rules.{rules}
 use Rattle.report.proofs.put_refused.Goals as goal
 
 pub returns : goal.returns

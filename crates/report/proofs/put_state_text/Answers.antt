@@ -6,7 +6,6 @@ use lib.ListN.{length, get_or}
 use lib.Seq.{length-sets}
 use Rattle.report.specs.Report.{state_text}
 use Rattle.report.proofs.ReportLaws.{state_in, share_fits, state_text_lem}
-use borrow.Author.Rules.{rules}
 use Rattle.report.proofs.put_state_text.Goals as goal
 
 pub put_tlc_lines-remote-requires : goal.put_tlc_lines-remote-requires

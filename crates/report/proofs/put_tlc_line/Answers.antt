@@ -2,7 +2,6 @@
 -- A number has 20 digits at most, so every place is small.
 use native.Mathlib.Omega.{arith}
 use Rattle.report.proofs.ReportLaws.{hex_length, tlc_line_lem, tlc_line_short}
-use borrow.Author.Rules.{rules}
 use Rattle.report.proofs.put_tlc_line.Goals as goal
 
 pub put_word-requires : goal.put_word-requires

@@ -1,12 +1,12 @@
 -- What is left to write, from here, gives what the whole gives.
 -- The whole is short, so every place is small.
-use Prim.Native.Nat.{◌+◌, ◌-◌, ◌*◌, ◌≤◌}
-use mathlib.Core.Path.{◌≡◌, refl}
+use Prim.Native.Nat.{◌+◌, ◌-◌}
+use mathlib.Core.Path.{refl}
 use native.Mathlib.Omega.{arith}
-use lib.ListN.{length, drop}
+use lib.ListN.{length}
 use Rattle.fiber_witness.specs.Witness.{chunks}
 use Rattle.report.specs.Report.{tlc_lines}
-use Rattle.report.proofs.ReportLaws.{part_short, Left, lines_start, lines_more, lines_end, lines_short, record_in, record_next}
+use Rattle.report.proofs.ReportLaws.{part_short, lines_start, lines_more, lines_end, lines_short, record_in, record_next}
 use borrow.Author.Rules.{rules}
 use Rattle.report.proofs.put_tlc_lines.Goals as goal
 

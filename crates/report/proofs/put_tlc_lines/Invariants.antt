@@ -1,13 +1,11 @@
 -- What is left to write, from here, gives what the whole gives.
 -- The whole is short, so every place is small.
-use Prim.Native.Nat.{◌+◌, ◌-◌, ◌*◌, ◌≤◌}
-use mathlib.Core.Path.{◌≡◌, refl}
-use native.Mathlib.Omega.{arith}
+use Prim.Native.Nat.{◌-◌, ◌*◌, ◌≤◌}
+use mathlib.Core.Path.{◌≡◌}
 use lib.ListN.{length, drop}
 use Rattle.fiber_witness.specs.Witness.{chunks}
 use Rattle.report.specs.Report.{tlc_lines}
-use Rattle.report.proofs.ReportLaws.{part_short, Left, lines_start, lines_more, lines_end, lines_short, record_in, record_next}
-use borrow.Author.Rules.{rules}
+use Rattle.report.proofs.ReportLaws.{Left}
 use Rattle.report.proofs.put_tlc_lines.Given as goal
 
 abbrev pub invariant-loop-i : goal.invariant-loop-i

@@ -1,7 +1,6 @@
 -- What is left to compare, from here, gives what the whole gives.
-use Rattle.std.proofs.Common.{◌≡◌, ◌-◌, ◌/◌, length, rules}
+use Rattle.std.proofs.Common.{◌≡◌, ◌-◌, ◌/◌, length}
 use Rattle.test_lines.specs.Lines.{holds, agree}
-use Rattle.test_lines.proofs.LinesLaws.{agree_length, agree_start, holds_end, holds_not, holds_more}
 use Rattle.test_lines.proofs.agrees.Given as goal
 
 abbrev pub invariant-loop-i : goal.invariant-loop-i

@@ -1,7 +1,6 @@
 -- The rest from here is the whole search; the place only grows.
-use Rattle.std.proofs.Common.{◌≡◌, ◌-◌, ◌≤◌, max, length, refl, rules}
+use Rattle.std.proofs.Common.{◌≡◌, ◌-◌, ◌≤◌, max, length}
 use Rattle.test_lines.specs.Lines.{find_in, find}
-use Rattle.test_lines.proofs.LinesLaws.{find_end, find_here, find_line, find_on}
 use Rattle.test_lines.proofs.find.Given as goal
 
 abbrev pub invariant-loop-i : goal.invariant-loop-i

@@ -1,6 +1,5 @@
 -- The number so far, and the rest from here.
-use Rattle.std.proofs.Common.{◌≡◌, ◌-◌, length, drop, refl, ◌∙◌, rules}
-use Rattle.test_lines.specs.Lines.{number_from}
+use Rattle.std.proofs.Common.{refl, ◌∙◌, rules}
 use Rattle.test_lines.proofs.LinesLaws.{number_more, number_end}
 use Rattle.test_lines.proofs.number.Goals as goal
 

@@ -1,7 +1,6 @@
 -- The number so far, and the rest from here.
-use Rattle.std.proofs.Common.{◌≡◌, ◌-◌, length, drop, refl, ◌∙◌, rules}
+use Rattle.std.proofs.Common.{◌≡◌, ◌-◌, length, drop}
 use Rattle.test_lines.specs.Lines.{number_from}
-use Rattle.test_lines.proofs.LinesLaws.{number_more, number_end}
 use Rattle.test_lines.proofs.number.Given as goal
 
 abbrev pub invariant-loop-i : goal.invariant-loop-i

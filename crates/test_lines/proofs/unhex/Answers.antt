@@ -1,8 +1,6 @@
 -- What is left to write, from here, gives what the whole gives; bytes without room change nothing.
-use Rattle.std.proofs.Common.{◌≡◌, ◌-◌, ◌/◌, length, refl, ◌∙◌, length-set, rules}
+use Rattle.std.proofs.Common.{◌/◌, length, refl, ◌∙◌, length-set, rules}
 use native.Mathlib.Nat.{sub-zero}
-use lib.Seq.{sets}
-use Rattle.test_lines.specs.Lines.{hex_bytes}
 use Rattle.test_lines.proofs.LinesLaws.{unhex_more, unhex_full, unhex_end}
 use Rattle.test_lines.proofs.unhex.Goals as goal
 

@@ -1,5 +1,5 @@
 -- Each turn goes on behind the end of a line.
-use Rattle.std.proofs.Common.{◌≡◌, ◌-◌, length, rules}
+use Rattle.std.proofs.Common.{◌≡◌, ◌-◌, length}
 use Rattle.vectors.proofs.all.Given as goal
 
 abbrev pub invariant-loop-at : goal.invariant-loop-at

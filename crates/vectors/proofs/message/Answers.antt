@@ -1,5 +1,5 @@
 -- The message has room, so each index is below the output's length.
-use Rattle.std.proofs.Common.{◌≡◌, ◌-◌, ◌≤◌, length, mul-le-mul, arith, length-set, rules}
+use Rattle.std.proofs.Common.{◌≤◌, mul-le-mul, arith, length-set, rules}
 use Rattle.vectors.proofs.message.Goals as goal
 
 pub overflow_mul-all : goal.overflow_mul-all

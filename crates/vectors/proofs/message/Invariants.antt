@@ -1,5 +1,5 @@
 -- The message has room, so each index is below the output's length.
-use Rattle.std.proofs.Common.{◌≡◌, ◌-◌, ◌≤◌, length, mul-le-mul, arith, length-set, rules}
+use Rattle.std.proofs.Common.{◌≡◌, ◌-◌, ◌≤◌, length}
 use Rattle.vectors.proofs.message.Given as goal
 
 abbrev pub invariant-loop-i : goal.invariant-loop-i

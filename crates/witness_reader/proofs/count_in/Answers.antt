@@ -3,7 +3,6 @@ use mathlib.Core.Path.{refl, sym}
 use native.Mathlib.Omega.{arith}
 use lib.Dec.{lit<}
 use lib.ListN.{get_or-eq_default}
-use borrow.Author.Rules.{rules}
 use Rattle.witness_reader.proofs.count_in.Goals as goal
 
 pub returns-then-counts-lt2 : goal.returns-then-counts-lt2

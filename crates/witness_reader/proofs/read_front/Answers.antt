@@ -1,8 +1,6 @@
 -- The tests in order, each by what the takes say of it. The TLC count is a byte. Assumes nothing.
 use mathlib.Core.Path.{refl, sym, ◌∙◌}
 use native.Mathlib.Omega.{arith}
-use borrow.Author.Rules.{rules}
-use borrow.Author.Tests.{not-true, not-false}
 use Rattle.fiber_types.proofs.RecordsLaws.{hash_len_small}
 use Rattle.fiber_witness.proofs.WitnessLaws.{whole_room, witness_unknown}
 use Rattle.witness_reader.proofs.ReaderLaws.{len_small, front_short, front_two, front_cut, front_unshared, front_room, front_rest, front_whole}

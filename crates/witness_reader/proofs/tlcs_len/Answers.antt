@@ -2,7 +2,6 @@
 use mathlib.Core.Path.{sym, ◌∙◌}
 use native.Mathlib.Omega.{arith}
 use borrow.Author.Rules.{rules}
-use borrow.Author.Tests.{not-true, not-false}
 use Rattle.fiber_types.proofs.RecordsLaws.{hash_len_small}
 use Rattle.witness_reader.proofs.ReaderLaws.{len_unknown, len_known, len_small}
 use Rattle.witness_reader.proofs.tlcs_len.Goals as goal

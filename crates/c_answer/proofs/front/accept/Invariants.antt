@@ -1,14 +1,10 @@
 -- Numbers are written one behind the other: what is left to write, from here, gives what the whole gives.
-use Prim.Native.Nat.{ℕ, ◌+◌, ◌-◌, ◌*◌, ◌≤◌}
-use mathlib.Core.Path.{◌≡◌, refl, sym, ap, ◌∙◌}
-use mathlib.Core.List.{List}
-use lib.ListN.{length, get_or, drop}
-use lib.Seq.{sets, length-sets}
+use Prim.Native.Nat.{◌+◌, ◌-◌, ◌*◌, ◌≤◌}
+use mathlib.Core.Path.{◌≡◌}
+use lib.ListN.{length, drop}
+use lib.Seq.{sets}
 use Rattle.fiber_bytes.specs.Bytes.{le_bytes}
 use Rattle.fiber_bytes.specs.Bytes as B
-use Rattle.fiber_bytes.proofs.BytesLaws.{numbers_more, numbers_end}
-use Rattle.c_answer.proofs.AnswersLaws.{behind, fields_by}
-use borrow.Author.Rules.{rules}
 use Rattle.c_answer.proofs.front.accept.Given as goal
 
 abbrev pub invariant-loop-i : goal.invariant-loop-i

@@ -1,6 +1,5 @@
 -- Two numbers, one behind the other.
 use Rattle.c_answer.proofs.AnswersLaws.{front_by}
-use borrow.Author.Rules.{rules}
 use Rattle.c_answer.proofs.front.put_front.Goals as goal
 
 pub returns : goal.returns

@@ -1,6 +1,5 @@
 -- The front, and the number as the return value.
 use Rattle.c_answer.proofs.AnswersLaws.{refused_by}
-use borrow.Author.Rules.{rules}
 use Rattle.c_answer.proofs.front.refuse.Goals as goal
 
 pub returns : goal.returns

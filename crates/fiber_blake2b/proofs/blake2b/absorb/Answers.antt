@@ -1,5 +1,5 @@
 -- `absorb` meets its contract: after i turns h is `absorbed i`; the last block is compressed behind the loop.
-use Rattle.std.proofs.Common.{◌≡◌, ◌-◌, ◌≤◌, refl, rules}
+use Rattle.std.proofs.Common.{refl, rules}
 use Rattle.fiber_blake2b.specs.Blake2b.{absorbed}
 use Rattle.fiber_blake2b.proofs.Blake2bLaws.{absorbed_more, hashed_by}
 use Rattle.fiber_blake2b.proofs.blake2b.absorb.Goals as goal

@@ -1,5 +1,4 @@
 -- `add` meets its contract: two sums that wrap are the sum of three modulo 2^64.
-use Rattle.std.proofs.Common.{rules}
 use Rattle.fiber_blake2b.proofs.Blake2bLaws.{added_by}
 use Rattle.fiber_blake2b.proofs.blake2b.add.Goals as goal
 

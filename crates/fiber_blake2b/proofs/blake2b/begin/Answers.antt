@@ -1,5 +1,4 @@
 -- `begin` meets its contract; t is below 2^64, so that its upper word is 0.
-use Rattle.std.proofs.Common.{rules}
 use Rattle.fiber_blake2b.proofs.Blake2bLaws.{start_by}
 use Rattle.fiber_blake2b.proofs.blake2b.begin.Goals as goal
 

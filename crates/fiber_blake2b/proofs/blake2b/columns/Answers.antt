@@ -1,5 +1,4 @@
 -- `columns` meets its contract: its four calls are those of its definition, in order.
-use Rattle.std.proofs.Common.{rules}
 use Rattle.fiber_blake2b.proofs.Blake2bLaws.{columns_by}
 use Rattle.fiber_blake2b.proofs.blake2b.columns.Goals as goal
 

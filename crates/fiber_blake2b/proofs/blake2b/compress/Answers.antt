@@ -1,5 +1,4 @@
 -- `compress` meets its contract: its four calls are the parts of F, in order.
-use Rattle.std.proofs.Common.{rules}
 use Rattle.fiber_blake2b.proofs.Blake2bLaws.{compressed_by}
 use Rattle.fiber_blake2b.proofs.blake2b.compress.Goals as goal
 

@@ -1,7 +1,7 @@
 -- `finish` meets its contract: after i turns the first 8 * i bytes are those of the first i words.
-use Rattle.std.proofs.Common.{◌≡◌, ◌+◌, ◌-◌, ◌*◌, ◌≤◌, length, take, refl, ◌∙◌, arith, rules}
+use Rattle.std.proofs.Common.{◌+◌, ◌*◌, refl, ◌∙◌, arith, rules}
 use mathlib.Core.List.{flat_map}
-use Rattle.fiber_bytes.specs.Bytes.{le_bytes, numbers}
+use Rattle.fiber_bytes.specs.Bytes.{le_bytes}
 use Rattle.fiber_bytes.proofs.BytesLaws.{le_bytes_length, each_more, each_end}
 use Rattle.fiber_blake2b.proofs.blake2b.finish.Goals as goal
 

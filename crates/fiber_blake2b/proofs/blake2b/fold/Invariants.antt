@@ -1,7 +1,6 @@
 -- `fold` meets its contract: after i turns h is `folded i`.
-use Rattle.std.proofs.Common.{◌≡◌, ◌-◌, ◌≤◌, refl, rules}
+use Rattle.std.proofs.Common.{◌≡◌, ◌-◌, ◌≤◌}
 use Rattle.fiber_blake2b.specs.Blake2b.{folded}
-use Rattle.fiber_blake2b.proofs.Blake2bLaws.{folded_more, folded_all}
 use Rattle.fiber_blake2b.proofs.blake2b.fold.Given as goal
 
 abbrev pub invariant-loop-i : goal.invariant-loop-i

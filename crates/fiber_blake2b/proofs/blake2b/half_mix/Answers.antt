@@ -1,5 +1,4 @@
 -- `half_mix` meets its contract: its four steps are those of `half`, in order.
-use Rattle.std.proofs.Common.{rules}
 use Rattle.fiber_blake2b.proofs.Blake2bLaws.{half_by}
 use Rattle.fiber_blake2b.proofs.blake2b.half_mix.Goals as goal
 

@@ -1,5 +1,4 @@
 -- `initial` meets its contract: the parameter block has words that are 0 but for the first and the last two.
-use Rattle.std.proofs.Common.{rules}
 use Rattle.fiber_blake2b.proofs.Blake2bLaws.{initial_by}
 use Rattle.fiber_blake2b.proofs.blake2b.initial.Goals as goal
 

@@ -1,5 +1,5 @@
 -- `load` meets its contract: after i turns the first i words of m are those of the block.
-use Rattle.std.proofs.Common.{◌≡◌, ◌-◌, ◌≤◌, length, take, refl, rules}
+use Rattle.std.proofs.Common.{refl, rules}
 use Rattle.fiber_blake2b.specs.Blake2b.{words}
 use Rattle.fiber_blake2b.proofs.Blake2bLaws.{words_more, words_all}
 use Rattle.fiber_blake2b.proofs.blake2b.load.Goals as goal

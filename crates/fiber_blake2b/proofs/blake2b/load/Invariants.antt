@@ -1,7 +1,6 @@
 -- `load` meets its contract: after i turns the first i words of m are those of the block.
-use Rattle.std.proofs.Common.{◌≡◌, ◌-◌, ◌≤◌, length, take, refl, rules}
+use Rattle.std.proofs.Common.{◌≡◌, ◌-◌, ◌≤◌, length, take}
 use Rattle.fiber_blake2b.specs.Blake2b.{words}
-use Rattle.fiber_blake2b.proofs.Blake2bLaws.{words_more, words_all}
 use Rattle.fiber_blake2b.proofs.blake2b.load.Given as goal
 
 abbrev pub invariant-loop-i : goal.invariant-loop-i

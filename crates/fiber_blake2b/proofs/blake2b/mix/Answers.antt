@@ -1,5 +1,4 @@
 -- `mix` meets its contract: the two halves of G.
-use Rattle.std.proofs.Common.{rules}
 use Rattle.fiber_blake2b.proofs.Blake2bLaws.{mixed_by}
 use Rattle.fiber_blake2b.proofs.blake2b.mix.Goals as goal
 

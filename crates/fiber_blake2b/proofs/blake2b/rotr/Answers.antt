@@ -1,5 +1,4 @@
 -- `rotr` meets its contract: a rotation by shifts, by the law over any width.
-use Rattle.std.proofs.Common.{rules}
 use Rattle.fiber_bytes.proofs.WordsLaws.{rotation}
 use Rattle.fiber_blake2b.proofs.blake2b.rotr.Goals as goal
 

@@ -1,5 +1,4 @@
 -- `run` meets its contract: its twelve calls are the twelve rounds, in order.
-use Rattle.std.proofs.Common.{rules}
 use Rattle.fiber_blake2b.proofs.Blake2bLaws.{rounds_by}
 use Rattle.fiber_blake2b.proofs.blake2b.run.Goals as goal
 

@@ -1,5 +1,4 @@
 -- `turn` meets its contract, by what `rotr` ensures.
-use Rattle.std.proofs.Common.{rules}
 use Rattle.fiber_blake2b.proofs.Blake2bLaws.{turned_by}
 use Rattle.fiber_blake2b.proofs.blake2b.turn.Goals as goal
 

@@ -1,7 +1,6 @@
 -- A buffer of 97 bytes has room for every record.
 use native.Mathlib.Omega.{arith}
 use Rattle.fiber_types.proofs.RecordsLaws.{hash_len_small}
-use borrow.Author.Rules.{rules}
 use Rattle.fiber_first.proofs.built.first_record.Goals as goal
 
 pub put_first-requires : goal.put_first-requires

@@ -2,7 +2,6 @@
 -- The type is a byte, since received and algorithm are 0 or 1.
 use native.Mathlib.Omega.{arith}
 use Rattle.fiber_choice.proofs.FirstRecordsLaws.{valid_bytes, first_remote_lem, first_local_lem}
-use borrow.Author.Rules.{rules}
 use Rattle.fiber_first.proofs.built.put_first.Goals as goal
 
 pub overflow_mul-numbers : goal.overflow_mul-numbers

@@ -1,17 +1,7 @@
 -- Whether the rests are the same, from here, is whether the wholes are.
 -- Each record is written to a buffer, read back and compared.
-use Prim.Native.Nat.{ℕ, ◌-◌, ◌+◌, ◌≤◌}
-use mathlib.Core.List.{List}
-use mathlib.Core.Path.{refl, ap, sym, ◌∙◌}
-use native.Mathlib.Omega.{arith}
-use borrow.Author.Tests.{not-true, not-false}
-use lib.ListN.{length, take, drop}
-use lib.Seq.{sets}
-use Rattle.fiber_types.proofs.RecordsLaws.{hash_len_small}
-use Rattle.fiber_choice.specs.FirstRecords.{first_record}
-use Rattle.fiber_witness.proofs.UpdateLaws.{part_between}
-use Rattle.fiber_choice.proofs.FirstRecordsLaws.{Sames, still_long, valid_asks, tracked_other, sames_start, sames_from, sames_at, sames_differ, sames_next, sames_end}
-use borrow.Author.Rules.{rules}
+use Prim.Native.Nat.{◌-◌}
+use Rattle.fiber_choice.proofs.FirstRecordsLaws.{Sames}
 use Rattle.fiber_first.proofs.built.same_as_tracked.Given as goal
 
 abbrev pub invariant-loop-i : goal.invariant-loop-i

@@ -1,5 +1,4 @@
 -- The test picks the share.
-use borrow.Author.Rules.{rules}
 use Rattle.fiber_first.proofs.built.share_by.Goals as goal
 
 pub returns-then-one : goal.returns-then-one

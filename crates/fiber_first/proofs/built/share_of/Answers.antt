@@ -1,6 +1,5 @@
 -- Three writes, one right behind the other, fill the array.
 use Rattle.fiber_choice.proofs.FirstRecordsLaws.{share_puts}
-use borrow.Author.Rules.{rules}
 use Rattle.fiber_first.proofs.built.share_of.Goals as goal
 
 pub returns : goal.returns

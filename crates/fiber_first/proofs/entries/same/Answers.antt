@@ -1,10 +1,7 @@
 -- Whether the rests are the same, from byte i on, is whether the wholes are.
 -- Slices of different lengths are not the same.
-use Prim.Native.Nat.{◌-◌, ◌≤◌}
-use mathlib.Core.Path.{◌≡◌, refl}
+use mathlib.Core.Path.{refl}
 use native.Mathlib.Omega.{arith}
-use lib.ListN.{length, drop}
-use Rattle.fiber_choice.specs.Entries.{same}
 use Rattle.fiber_choice.proofs.EntriesLaws.{same_short, same_differ, same_agree, same_end}
 use borrow.Author.Rules.{rules}
 use Rattle.fiber_first.proofs.entries.same.Goals as goal

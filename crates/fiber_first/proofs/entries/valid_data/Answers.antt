@@ -2,7 +2,6 @@
 -- The answer is the same, since all three have to hold.
 use mathlib.Core.Path.{◌∙◌}
 use Rattle.fiber_choice.proofs.EntriesLaws.{data_cut, data_local, data_remote, data_tlcs}
-use borrow.Author.Rules.{rules}
 use Rattle.fiber_first.proofs.entries.valid_data.Goals as goal
 
 pub returns-then-tlcs-ne0 : goal.returns-then-tlcs-ne0

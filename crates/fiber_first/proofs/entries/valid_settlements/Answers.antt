@@ -1,11 +1,8 @@
 -- Whether the rest is good, from entry i on, is whether the whole is.
 -- A TLC is good by its first two bytes.
-use Prim.Native.Nat.{◌-◌}
 use mathlib.Core.Path.{refl}
 use native.Mathlib.Omega.{arith}
-use Rattle.fiber_choice.specs.Entries.{entries, all, settlement_len, valid_settlement}
-use Rattle.fiber_choice.proofs.EntriesLaws.{Along, along_start, along_room, checking_bad, checking_good, checking_end, settlement_received, settlement_algorithm, settlement_good}
-use borrow.Author.Rules.{rules}
+use Rattle.fiber_choice.proofs.EntriesLaws.{along_start, along_room, checking_bad, checking_good, checking_end, settlement_received, settlement_algorithm, settlement_good}
 use Rattle.fiber_first.proofs.entries.valid_settlements.Goals as goal
 
 pub loop-i-init : goal.loop-i-init

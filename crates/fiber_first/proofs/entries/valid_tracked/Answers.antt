@@ -1,11 +1,9 @@
 -- Whether the rest is good, from entry i on, is whether the whole is.
 -- A TLC is good by its byte 32, which is the place of the loop.
-use Prim.Native.Nat.{◌+◌, ◌-◌, ◌≤◌}
+use Prim.Native.Nat.{◌+◌, ◌-◌}
 use mathlib.Core.Path.{◌≡◌}
 use native.Mathlib.Omega.{arith}
-use Rattle.fiber_choice.specs.Entries.{entries, all, tracked_len, valid_tracked}
-use Rattle.fiber_choice.proofs.EntriesLaws.{Along, along_start, along_room, along_few, checking_bad, checking_good, checking_end, tracked_bad, tracked_good}
-use borrow.Author.Rules.{rules}
+use Rattle.fiber_choice.proofs.EntriesLaws.{along_start, along_room, along_few, checking_bad, checking_good, checking_end, tracked_bad, tracked_good}
 use Rattle.fiber_first.proofs.entries.valid_tracked.Goals as goal
 
 pub loop-i-init : goal.loop-i-init

@@ -1,18 +1,14 @@
 -- The tests one after the other; where there is room, the count, the records and the two shares are the first state.
 -- The records have 65 + h bytes each, so that the shares go right behind them.
 use native.Mathlib.Omega.{arith}
-use mathlib.Core.Path.{◌≡◌, sym, ap, ◌∙◌}
-use borrow.Author.Tests.{not-true, not-false}
+use mathlib.Core.Path.{sym, ap, ◌∙◌}
 use Prim.Native.Nat.{ℕ}
 use mathlib.Core.List.{List}
 use Rattle.fiber_types.specs.declared.tlc.Amount.{Amount}
-use mathlib.Core.Bool.{true}
 use lib.ListN.{length, length-set}
-use Rattle.fiber_types.specs.Records.{valid_hash_len}
 use Rattle.fiber_types.proofs.RecordsLaws.{hash_len_small}
 use Rattle.fiber_choice.specs.Request.{SettlementData}
 use Rattle.fiber_choice.proofs.FirstRecordsLaws.{share_by_length, data_unknown, data_bad, data_valid, data_many, data_small, data_flat, data_short, data_puts, wrote_length}
-use borrow.Author.Rules.{rules}
 use Rattle.fiber_first.proofs.first.settlement_data_witness.Goals as goal
 
 -- the settlement data

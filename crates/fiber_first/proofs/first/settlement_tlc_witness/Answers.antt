@@ -3,11 +3,9 @@
 use Prim.Native.Nat.{◌+◌, ◌-◌}
 use mathlib.Core.Path.{sym, ap, ◌∙◌}
 use native.Mathlib.Omega.{arith}
-use borrow.Author.Tests.{not-true, not-false}
 use lib.Seq.{sets}
 use Rattle.fiber_types.proofs.RecordsLaws.{hash_len_small}
 use Rattle.fiber_choice.proofs.FirstRecordsLaws.{one_valid, first_back, tlc_unknown, tlc_other, tlc_bad, tlc_short, tlc_whole}
-use borrow.Author.Rules.{rules}
 use Rattle.fiber_first.proofs.first.settlement_tlc_witness.Goals as goal
 
 pub returns-then-not-valid_hash_len : goal.returns-then-not-valid_hash_len

@@ -4,7 +4,6 @@ use native.Mathlib.Omega.{arith}
 use Rattle.fiber_types.proofs.RecordsLaws.{hash_len_small, whole_never}
 use Rattle.fiber_choice.specs.HandedOut.{choice_amount}
 use Rattle.fiber_choice.proofs.HandedLaws.{place_whole, place_amount, below_place, below_room}
-use borrow.Author.Rules.{rules}
 use Rattle.fiber_output.proofs.output.amount_of.Goals as goal
 
 pub overflow_add-h : goal.overflow_add-h

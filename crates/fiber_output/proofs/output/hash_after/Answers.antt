@@ -2,13 +2,12 @@
 -- One TLC fewer is counted where the one that is settled is among them.
 use native.Mathlib.Omega.{arith}
 use mathlib.Core.Path.{ap, ◌∙◌}
-use mathlib.Core.Logic.{inl, inr, ⊎_elim}
+use mathlib.Core.Logic.{inl, inr}
 use lib.ListN.{length}
 use lib.Seq.{length-sets}
 use Rattle.fiber_blake2b.specs.Blake2b.{ckb_hash}
 use Rattle.fiber_choice.specs.inner.Plan.{plan_after}
 use Rattle.fiber_choice.proofs.HandedLaws.{tlcs, few_tracked, tracked_whole, after_size, after_asks, after_written, read_back}
-use borrow.Author.Rules.{rules}
 use Rattle.fiber_output.proofs.output.hash_after.Goals as goal
 use Rattle.fiber_output.proofs.output.hash_after.Goals.{then-p-n, else-p-n}
 

@@ -1,7 +1,6 @@
 -- Each variant of the choice is one clause of the definition.
 use Rattle.fiber_choice.specs.HandedOut.{choice_byte}
 use Rattle.fiber_choice.specs.inner.Plan.{plan_of}
-use borrow.Author.Rules.{rules}
 use Rattle.fiber_output.proofs.output.plan_of.Goals as goal
 
 pub returns-in-Remote : goal.returns-in-Remote

@@ -3,7 +3,6 @@ use mathlib.Core.Path.{ap, ◌∙◌}
 use lib.ListN.{length}
 use lib.Seq.{length-sets}
 use Rattle.fiber_choice.proofs.HandedLaws.{args_puts}
-use borrow.Author.Rules.{rules}
 use Rattle.fiber_output.proofs.output.put_args.Goals as goal
 
 pub returns : goal.returns

@@ -1,12 +1,8 @@
 -- The unlock, and in the part behind it the state after it, which the state before it is written over; then the new args.
 -- Each part has the length that the layout says, so each write goes right behind the one before it.
 use native.Mathlib.Omega.{arith}
-use mathlib.Core.Path.{◌≡◌}
-use mathlib.Core.Logic.{inl, inr, ⊎_elim}
-use Rattle.fiber_types.specs.Records.{witness_len}
 use Rattle.fiber_choice.specs.inner.Plan.{plan_after}
-use Rattle.fiber_choice.proofs.HandedLaws.{tlcs, few_tracked, tracked_whole, hash_length, unlock_place, unlock_room, after_room, part_room, before_room, before_asks, new_room, new_place, joined_puts}
-use borrow.Author.Rules.{rules}
+use Rattle.fiber_choice.proofs.HandedLaws.{tlcs, few_tracked, tracked_whole, hash_length, unlock_room, after_room, part_room, before_room, before_asks, new_room, new_place, joined_puts}
 use Rattle.fiber_output.proofs.output.put_joined.Goals as goal
 
 pub put_unlock-requires : goal.put_unlock-requires

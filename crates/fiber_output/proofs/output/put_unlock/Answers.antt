@@ -2,7 +2,6 @@
 -- Both parts have the lengths that the layout wants, and there is room.
 use native.Mathlib.Omega.{arith}
 use Rattle.fiber_choice.proofs.HandedLaws.{flagged, unlock_plain, unlock_paired}
-use borrow.Author.Rules.{rules}
 use Rattle.fiber_output.proofs.output.put_unlock.Goals as goal
 
 pub overflow_mul-p : goal.overflow_mul-p

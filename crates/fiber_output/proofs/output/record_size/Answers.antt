@@ -1,6 +1,5 @@
 -- Each variant of the choice is one clause of the definition.
 use Rattle.fiber_choice.specs.HandedOut.{record_size}
-use borrow.Author.Rules.{rules}
 use Rattle.fiber_output.proofs.output.record_size.Goals as goal
 
 pub returns-in-Share : goal.returns-in-Share

@@ -1,13 +1,8 @@
 -- The plan says of the choice what the definitions say, and its three parts have the lengths that the code adds up.
 -- Where they have room they are written as one; where not, the output stays.
-use Prim.Native.Nat.{◌+◌, ◌-◌, ◌≤◌}
 use native.Mathlib.Omega.{arith}
-use mathlib.Core.Path.{◌≡◌}
-use mathlib.Core.Logic.{inl, inr, ⊎_elim}
-use lib.ListN.{length}
-use Rattle.fiber_types.specs.Records.{witness_len}
 use Rattle.fiber_types.proofs.RecordsLaws.{hash_len_small}
-use Rattle.fiber_choice.proofs.HandedLaws.{unlock_most, state_small, within_tlcs, within_pairs, unlock_place, new_length, planned, handed_size, handed_short, handed_whole}
+use Rattle.fiber_choice.proofs.HandedLaws.{unlock_most, state_small, within_tlcs, within_pairs, planned, handed_size, handed_short, handed_whole}
 use borrow.Author.Rules.{rules}
 use Rattle.fiber_output.proofs.output.write_output.Goals as goal
 

@@ -1,7 +1,6 @@
 -- The loop takes in block after block: each lies whole in the message, so it is the padded message's.
-use Rattle.std.proofs.Common.{◌≡◌, ◌-◌, ◌/◌, ◌≤◌, length, arith, rules}
+use Rattle.std.proofs.Common.{◌≡◌, ◌-◌, ◌≤◌}
 use Rattle.fiber_sha256.specs.Sha256.{absorbed, padded}
-use Rattle.fiber_sha256.proofs.Sha256Laws.{absorbed_more}
 use Rattle.fiber_sha256.proofs.sha256.absorb.Given as goal
 
 abbrev pub invariant-loop-i : goal.invariant-loop-i

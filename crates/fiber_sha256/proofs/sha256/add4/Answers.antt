@@ -1,6 +1,5 @@
 -- Three sums that wrap are one sum modulo 2^32.
 use Rattle.fiber_sha256.proofs.Sha256Laws.{add4_by}
-use Rattle.std.proofs.Common.{rules}
 use Rattle.fiber_sha256.proofs.sha256.add4.Goals as goal
 
 pub returns : goal.returns

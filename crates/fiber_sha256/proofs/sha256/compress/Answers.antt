@@ -1,6 +1,5 @@
 -- Load, run and fold are the parts of `compressed`.
 use Rattle.fiber_sha256.proofs.Sha256Laws.{compressed_by}
-use Rattle.std.proofs.Common.{rules}
 use Rattle.fiber_sha256.proofs.sha256.compress.Goals as goal
 
 pub returns : goal.returns

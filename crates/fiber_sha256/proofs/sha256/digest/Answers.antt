@@ -1,5 +1,5 @@
 -- The loop writes the bytes of word after word.
-use Rattle.std.proofs.Common.{◌≡◌, ◌+◌, ◌-◌, ◌*◌, ◌≤◌, length, take, refl, ◌∙◌, arith, rules}
+use Rattle.std.proofs.Common.{◌+◌, ◌*◌, refl, ◌∙◌, arith, rules}
 use mathlib.Core.List.{flat_map}
 use Rattle.fiber_bytes.specs.Bytes.{be_bytes}
 use Rattle.fiber_bytes.proofs.BytesLaws.{each_more}

@@ -1,9 +1,7 @@
 -- The loop writes the bytes of word after word.
-use Rattle.std.proofs.Common.{◌≡◌, ◌+◌, ◌-◌, ◌*◌, ◌≤◌, length, take, refl, ◌∙◌, arith, rules}
+use Rattle.std.proofs.Common.{◌≡◌, ◌-◌, ◌*◌, ◌≤◌, length, take}
 use mathlib.Core.List.{flat_map}
 use Rattle.fiber_bytes.specs.Bytes.{be_bytes}
-use Rattle.fiber_bytes.proofs.BytesLaws.{each_more}
-use Rattle.fiber_sha256.proofs.Sha256Laws.{word_length, digest_all}
 use Rattle.fiber_sha256.proofs.sha256.digest.Given as goal
 
 abbrev pub invariant-loop-i : goal.invariant-loop-i

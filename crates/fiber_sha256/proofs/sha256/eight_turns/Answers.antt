@@ -1,5 +1,5 @@
 -- Four times two turns, each from where the last ended.
-use Rattle.std.proofs.Common.{◌≡◌, [], arith, rules}
+use Rattle.std.proofs.Common.{◌≡◌, [], arith}
 use Rattle.fiber_sha256.specs.Sha256.{turns}
 use Rattle.fiber_sha256.proofs.Sha256Laws.{eight_by}
 use Rattle.fiber_sha256.proofs.sha256.eight_turns.Goals as goal

@@ -1,5 +1,5 @@
 -- The loop adds word after word, as `folded` does.
-use Rattle.std.proofs.Common.{◌≡◌, ◌-◌, ◌≤◌, refl, arith, rules}
+use Rattle.std.proofs.Common.{◌≡◌, refl, arith, rules}
 use Rattle.fiber_sha256.specs.Sha256.{folded}
 use Rattle.fiber_sha256.proofs.Sha256Laws.{folded_more}
 use Rattle.fiber_sha256.proofs.sha256.fold.Goals as goal

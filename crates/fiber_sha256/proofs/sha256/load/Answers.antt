@@ -1,5 +1,5 @@
 -- The loop writes the words one by one, as `loaded` does.
-use Rattle.std.proofs.Common.{◌≡◌, ◌-◌, ◌≤◌, refl, arith, rules}
+use Rattle.std.proofs.Common.{◌≡◌, refl, arith, rules}
 use Rattle.fiber_sha256.specs.Sha256.{loaded}
 use Rattle.fiber_sha256.proofs.Sha256Laws.{loaded_more}
 use Rattle.fiber_sha256.proofs.sha256.load.Goals as goal

@@ -1,7 +1,6 @@
 -- The loop writes the words one by one, as `loaded` does.
-use Rattle.std.proofs.Common.{◌≡◌, ◌-◌, ◌≤◌, refl, arith, rules}
+use Rattle.std.proofs.Common.{◌≡◌, ◌-◌, ◌≤◌}
 use Rattle.fiber_sha256.specs.Sha256.{loaded}
-use Rattle.fiber_sha256.proofs.Sha256Laws.{loaded_more}
 use Rattle.fiber_sha256.proofs.sha256.load.Given as goal
 
 abbrev pub invariant-loop-i : goal.invariant-loop-i

@@ -1,5 +1,5 @@
 -- Four stores of the bytes of x are `sets` of its bytes.
-use Rattle.std.proofs.Common.{arith, length-set, rules}
+use Rattle.std.proofs.Common.{arith, length-set}
 use Rattle.fiber_sha256.proofs.Sha256Laws.{put_by}
 use Rattle.fiber_sha256.proofs.sha256.put.Goals as goal
 

@@ -1,6 +1,5 @@
 -- One copy to the front of 128 zeros.
 use Rattle.fiber_sha256.proofs.Sha256Laws.{rest_copied}
-use Rattle.std.proofs.Common.{rules}
 use Rattle.fiber_sha256.proofs.sha256.rest.Goals as goal
 
 pub returns : goal.returns

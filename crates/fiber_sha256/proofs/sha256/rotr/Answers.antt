@@ -1,6 +1,5 @@
 -- A rotation by shifts is `rotated`, at the width 32.
 use Rattle.fiber_bytes.proofs.WordsLaws.{rotation}
-use Rattle.std.proofs.Common.{rules}
 use Rattle.fiber_sha256.proofs.sha256.rotr.Goals as goal
 
 pub returns : goal.returns

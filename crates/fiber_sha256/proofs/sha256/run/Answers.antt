@@ -1,5 +1,5 @@
 -- The loop makes 48 turns and all words of the schedule, and two more groups of eight make 64.
-use Rattle.std.proofs.Common.{◌≡◌, ◌-◌, ◌*◌, ◌≤◌, refl, arith, rules}
+use Rattle.std.proofs.Common.{refl, arith, rules}
 use Rattle.fiber_sha256.specs.Sha256.{extended, turns}
 use Rattle.fiber_sha256.proofs.Sha256Laws.{run_more, run_by}
 use Rattle.fiber_sha256.proofs.sha256.run.Goals as goal

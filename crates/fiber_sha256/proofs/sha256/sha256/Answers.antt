@@ -1,6 +1,5 @@
 -- The whole blocks, then the one or two blocks of the padded end: all of the padded message.
 use Rattle.fiber_sha256.proofs.Sha256Laws.{hash_one, hash_two}
-use Rattle.std.proofs.Common.{rules}
 use Rattle.fiber_sha256.proofs.sha256.sha256.Goals as goal
 
 pub returns-then-s-lt56 : goal.returns-then-s-lt56

@@ -1,6 +1,5 @@
 -- A turn, and one more word of the schedule: word i is already as it is when all 48 are made.
 use Rattle.fiber_sha256.proofs.Sha256Laws.{step_by}
-use Rattle.std.proofs.Common.{rules}
 use Rattle.fiber_sha256.proofs.sha256.step.Goals as goal
 
 pub returns : goal.returns

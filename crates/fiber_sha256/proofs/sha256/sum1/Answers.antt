@@ -1,5 +1,5 @@
 -- `sum1` by its rotations, each of which `rotr` makes.
-use Rattle.std.proofs.Common.{ap₂, rules}
+use Rattle.std.proofs.Common.{ap₂}
 use lib.Bits.{bit_xor}
 use Rattle.fiber_sha256.specs.Sha256.{sum1}
 use Rattle.fiber_sha256.proofs.sha256.sum1.Goals as goal

@@ -1,6 +1,5 @@
 -- T1 by the parts that its callees make, each sum modulo 2^32.
 use Rattle.fiber_sha256.proofs.Sha256Laws.{t1_by}
-use Rattle.std.proofs.Common.{rules}
 use Rattle.fiber_sha256.proofs.sha256.t1.Goals as goal
 
 pub returns : goal.returns

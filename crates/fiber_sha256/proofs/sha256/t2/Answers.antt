@@ -1,6 +1,5 @@
 -- T2 by the parts that its callees make.
 use Rattle.fiber_sha256.proofs.Sha256Laws.{t2_by}
-use Rattle.std.proofs.Common.{rules}
 use Rattle.fiber_sha256.proofs.sha256.t2.Goals as goal
 
 pub returns : goal.returns

@@ -1,5 +1,5 @@
 -- The bytes of `rest`, the one bit and the two halves of the count of bits are written where zeros stand.
-use Rattle.std.proofs.Common.{refl, arith, length-set, rules}
+use Rattle.std.proofs.Common.{refl, arith, length-set}
 use Rattle.fiber_sha256.proofs.Sha256Laws.{tail_by}
 use Rattle.fiber_sha256.proofs.sha256.tail.Goals as goal
 

@@ -1,6 +1,5 @@
 -- One turn is `turned`: its parts are, and the eight results stand as it has them.
 use Rattle.fiber_sha256.proofs.Sha256Laws.{turned_by}
-use Rattle.std.proofs.Common.{rules}
 use Rattle.fiber_sha256.proofs.sha256.turn.Goals as goal
 
 pub returns : goal.returns

@@ -1,5 +1,5 @@
 -- Two turns, the second from where the first ended.
-use Rattle.std.proofs.Common.{◌≡◌, [], arith, rules}
+use Rattle.std.proofs.Common.{◌≡◌, [], arith}
 use Rattle.fiber_sha256.specs.Sha256.{turns}
 use Rattle.fiber_sha256.proofs.Sha256Laws.{turns_more, two_by}
 use Rattle.fiber_sha256.proofs.sha256.two_turns.Goals as goal

@@ -1,6 +1,5 @@
 -- Four bytes that are there are the word that `be` reads.
 use Rattle.fiber_sha256.proofs.Sha256Laws.{word_by}
-use Rattle.std.proofs.Common.{rules}
 use Rattle.fiber_sha256.proofs.sha256.word.Goals as goal
 
 pub returns : goal.returns

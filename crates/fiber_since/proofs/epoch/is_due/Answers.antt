@@ -2,9 +2,7 @@
 use mathlib.Core.Path.{sym, ◌∙◌}
 use mathlib.Core.Bool.{true, false}
 use mathlib.Core.Logic.{inl, inr}
-use borrow.Author.Tests.{not-true, not-false}
 use Rattle.fiber_since.proofs.EpochLaws.{within, test_bits, test_zero, test_due}
-use borrow.Author.Rules.{rules}
 use Rattle.fiber_since.proofs.epoch.is_due.Goals as goal
 
 pub returns-then-not-within_bits : goal.returns-then-not-within_bits

@@ -1,10 +1,8 @@
 -- The tests in the order of document 01.
 use mathlib.Core.Path.{sym, ◌∙◌}
-use borrow.Author.Tests.{not-true, not-false}
 use native.Mathlib.Omega.{arith}
 use Rattle.fiber_since.specs.Epoch.{units}
 use Rattle.fiber_since.proofs.EpochLaws.{units_small, scaled_bits, scaled_over, scaled_over_2, scaled_fits}
-use borrow.Author.Rules.{rules}
 use Rattle.fiber_since.proofs.epoch.mul.Goals as goal
 
 pub returns-then-not-within_bits : goal.returns-then-not-within_bits

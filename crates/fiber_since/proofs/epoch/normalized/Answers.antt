@@ -1,7 +1,6 @@
 -- The tests in order; a zero denominator is turned down before the division.
 use borrow.Author.Tests.{eq-eqb, ne_eqb, lt-ltb, le-ltb}
 use Rattle.fiber_since.specs.Epoch.{normalized}
-use borrow.Author.Rules.{rules}
 use Rattle.fiber_since.proofs.epoch.normalized.Goals as goal
 
 pub returns-then-d-eq0 : goal.returns-then-d-eq0

@@ -1,7 +1,6 @@
 -- By the relative bit, then by the metric.
 use mathlib.Core.Path.{◌∙◌}
 use Rattle.fiber_since.proofs.SinceLaws.{expiry_relative, expiry_metric}
-use borrow.Author.Rules.{rules}
 use Rattle.fiber_since.proofs.since.absolute_expiry.Goals as goal
 
 pub returns-then-since : goal.returns-then-since

@@ -1,6 +1,5 @@
 -- Each field is the definition's.
 use Rattle.fiber_since.specs.Since.{since}
-use borrow.Author.Rules.{rules}
 use Rattle.fiber_since.proofs.since.from_raw_value.Goals as goal
 
 pub returns : goal.returns

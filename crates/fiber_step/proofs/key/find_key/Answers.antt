@@ -1,17 +1,15 @@
 -- To look from TLC i on finds what looking at all of them finds.
 -- A key is hashed only where the hash fits, and only then matters.
-use Prim.Native.Nat.{ℕ, ◌-◌}
+use Prim.Native.Nat.{ℕ}
 use mathlib.Core.Path.{refl, sym, ap, ◌∙◌}
 use mathlib.Core.List.{List}
-use mathlib.Core.Logic.{⊎_elim}
 use native.Mathlib.Omega.{arith}
-use Rattle.fiber_choice.specs.Entries.{same, entries, find_first, settlement_len, local_key}
+use Rattle.fiber_choice.specs.Entries.{same, settlement_len, local_key}
 use Rattle.fiber_choice.specs.FirstRecords.{hash_of}
 use Rattle.fiber_choice.specs.Verdicts.{is_key}
 use Rattle.fiber_witness.proofs.UpdateLaws.{part_between}
-use Rattle.fiber_choice.proofs.EntriesLaws.{Along, along_start, along_room, finding_end, finding_this, finding_more}
+use Rattle.fiber_choice.proofs.EntriesLaws.{along_start, along_room, finding_end, finding_this, finding_more}
 use Rattle.fiber_choice.proofs.VerdictsLaws.{key_fits, key_unfit, key_front}
-use borrow.Author.Rules.{rules}
 use Rattle.fiber_step.proofs.key.find_key.Goals as goal
 use Rattle.fiber_step.proofs.key.find_key.Goals.{then-same+else-signs_for, else-same}
 

@@ -7,7 +7,6 @@ use lib.ListN.{length}
 use Rattle.fiber_types.proofs.RecordsLaws.{payment_hash_length}
 use Rattle.fiber_choice.specs.Entries.{entries, find_first, settlement_len}
 use Rattle.fiber_choice.specs.Verdicts.{is_key, key_of}
-use borrow.Author.Rules.{rules}
 use Rattle.fiber_step.proofs.key.key_of.Goals as goal
 
 pub find_key-requires : goal.find_key-requires

@@ -3,7 +3,6 @@ use mathlib.Core.Path.{ap, ◌∙◌}
 use Rattle.fiber_types.specs.declared.key.KeyHash.{KeyHash}
 use Rattle.fiber_types.specs.Key.{key_hash}
 use Rattle.fiber_choice.specs.Entries.{same}
-use borrow.Author.Rules.{rules}
 use Rattle.fiber_step.proofs.key.signs_for.Goals as goal
 
 pub returns : goal.returns

@@ -2,7 +2,6 @@
 use mathlib.Core.Path.{sym, ◌∙◌}
 use mathlib.Core.Bool.{true, false}
 use Rattle.fiber_choice.proofs.PreimagesLaws.{pair_of, pair_bytes, counting_none, counting_at}
-use borrow.Author.Rules.{rules}
 use Rattle.fiber_step.proofs.preimage.counting_pair.Goals as goal
 
 pub counts-requires : goal.counts-requires

@@ -4,7 +4,6 @@ use lib.ListN.{get_or}
 use Rattle.fiber_choice.specs.Entries.{same}
 use Rattle.fiber_choice.specs.Preimages.{counts_at, digest}
 use Rattle.fiber_choice.proofs.PreimagesLaws.{pair_preimage_lem}
-use borrow.Author.Rules.{rules}
 use Rattle.fiber_step.proofs.preimage.counts.Goals as goal
 
 pub returns : goal.returns

@@ -1,7 +1,6 @@
 -- The hash by the test of the definition.
 use borrow.Author.Tests.{eq-eqb, ne_eqb}
 use Rattle.fiber_choice.specs.Preimages.{digest}
-use borrow.Author.Rules.{rules}
 use Rattle.fiber_step.proofs.preimage.digest.Goals as goal
 
 pub returns-then-algorithm-eq1 : goal.returns-then-algorithm-eq1

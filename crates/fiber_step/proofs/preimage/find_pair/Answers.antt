@@ -1,13 +1,11 @@
 -- To look from pair i on finds what looking at all of them finds.
 -- The first half of a pair is its hash.
-use Prim.Native.Nat.{◌-◌}
 use mathlib.Core.Path.{refl, sym, ap, ◌∙◌}
 use native.Mathlib.Omega.{arith}
-use Rattle.fiber_choice.specs.Entries.{same, entries, find_first, pair_len}
+use Rattle.fiber_choice.specs.Entries.{same, pair_len}
 use Rattle.fiber_witness.proofs.UpdateLaws.{part_between}
-use Rattle.fiber_choice.proofs.EntriesLaws.{Along, along_start, along_room, finding_end, finding_this, finding_more}
+use Rattle.fiber_choice.proofs.EntriesLaws.{along_start, along_room, finding_end, finding_this, finding_more}
 use Rattle.fiber_choice.proofs.PreimagesLaws.{has_hash, find_by, pair_hash_lem}
-use borrow.Author.Rules.{rules}
 use Rattle.fiber_step.proofs.preimage.find_pair.Goals as goal
 
 pub loop-i-init : goal.loop-i-init

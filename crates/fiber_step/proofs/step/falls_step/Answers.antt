@@ -1,6 +1,5 @@
 -- Before the expiry has passed, and behind it.
 use Rattle.fiber_choice.proofs.VerdictsLaws.{falls_before, falls_behind}
-use borrow.Author.Rules.{rules}
 use Rattle.fiber_step.proofs.step.falls_step.Goals as goal
 
 pub returns-then-time-ms : goal.returns-then-time-ms

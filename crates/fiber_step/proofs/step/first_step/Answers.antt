@@ -3,7 +3,6 @@
 use borrow.Author.Tests.{not-true, not-false}
 use Rattle.fiber_choice.specs.declared.kinds.Cause.TheVariants as CauseCase
 use Rattle.fiber_choice.proofs.VerdictsLaws.{step_as, step_passed, first_due, first_undue, first_early, first_ready_lem, first_falls, first_waits}
-use borrow.Author.Rules.{rules}
 use Rattle.fiber_step.proofs.step.first_step.Goals as goal
 
 pub returns-then-dues : goal.returns-then-dues

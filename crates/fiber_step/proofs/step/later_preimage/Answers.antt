@@ -6,7 +6,6 @@ use native.Mathlib.Omega.{arith}
 use Rattle.fiber_choice.specs.declared.kinds.Cause.TheVariants as CauseCase
 use Rattle.fiber_choice.proofs.PreimagesLaws.{pair_of, pair_bytes, counting_none, counting_at}
 use Rattle.fiber_choice.proofs.VerdictsLaws.{step_as, step_passed, preimage_early, falls_behind, key_of_record, key_missing, key_ready, key_falls}
-use borrow.Author.Rules.{rules}
 use Rattle.fiber_step.proofs.step.later_preimage.Goals as goal
 
 pub counts-requires : goal.counts-requires

@@ -7,7 +7,6 @@ use Rattle.fiber_choice.specs.declared.kinds.Cause.TheVariants as CauseCase
 use Rattle.fiber_choice.specs.Entries.{entries, pair_len}
 use Rattle.fiber_choice.specs.Preimages.{counting_pair}
 use Rattle.fiber_choice.proofs.VerdictsLaws.{record_of, read_there, step_as, step_passed, later_none, later_kind}
-use borrow.Author.Rules.{rules}
 use Rattle.fiber_step.proofs.step.later_step.Goals as goal
 
 pub returns-in_default : goal.returns-in_default

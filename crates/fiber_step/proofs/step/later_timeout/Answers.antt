@@ -2,7 +2,6 @@
 use mathlib.Core.Path.{sym, ◌∙◌}
 use Rattle.fiber_choice.specs.declared.kinds.Cause.TheVariants as CauseCase
 use Rattle.fiber_choice.proofs.VerdictsLaws.{step_as, step_passed, timeout_early, key_timeout, key_missing}
-use borrow.Author.Rules.{rules}
 use Rattle.fiber_step.proofs.step.later_timeout.Goals as goal
 
 pub returns-then-time-ms : goal.returns-then-time-ms

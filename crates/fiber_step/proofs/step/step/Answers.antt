@@ -5,7 +5,6 @@ use lib.ListN.{length}
 use native.Mathlib.Omega.{arith}
 use Rattle.fiber_bytes.proofs.BytesLaws.{part_length}
 use Rattle.fiber_choice.proofs.VerdictsLaws.{step_as, verdict_later, verdict_first, reached_room}
-use borrow.Author.Rules.{rules}
 use Rattle.fiber_step.proofs.step.step.Goals as goal
 
 pub first_step-requires : goal.first_step-requires

@@ -5,7 +5,6 @@ use lib.ListN.{length}
 use Rattle.fiber_bytes.proofs.BytesLaws.{part_length}
 use Rattle.fiber_choice.proofs.VerdictsLaws.{verdict_later, verdict_first, reached_room}
 use Rattle.fiber_choice.proofs.WaitsLaws.{pends_as}
-use borrow.Author.Rules.{rules}
 use Rattle.fiber_step.proofs.wait.cause_of.Goals as goal
 
 pub first_cause-requires : goal.first_cause-requires

@@ -3,7 +3,6 @@ use Rattle.fiber_choice.specs.declared.kinds.Cause.TheVariants as CauseCase
 use Rattle.fiber_choice.proofs.VerdictsLaws.{first_due, first_undue, first_early, first_pair}
 use Rattle.fiber_choice.proofs.WaitsLaws.{pends_as, pends_passed, pends_timeout, pends_pair}
 use mathlib.Core.Path.{refl}
-use borrow.Author.Rules.{rules}
 use Rattle.fiber_step.proofs.wait.first_cause.Goals as goal
 
 pub returns-then-dues : goal.returns-then-dues

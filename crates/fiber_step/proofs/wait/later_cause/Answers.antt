@@ -6,7 +6,6 @@ use Rattle.fiber_choice.specs.declared.kinds.Cause.TheVariants as CauseCase
 use Rattle.fiber_choice.specs.Preimages.{counting_pair}
 use Rattle.fiber_choice.proofs.VerdictsLaws.{read_there, key_of_record, key_missing, key_timeout, key_pair, later_none, later_kind}
 use Rattle.fiber_choice.proofs.WaitsLaws.{pends_as, pends_passed, pends_timeout, pends_pair}
-use borrow.Author.Rules.{rules}
 use Rattle.fiber_step.proofs.wait.later_cause.Goals as goal
 
 pub returns-in_default : goal.returns-in_default

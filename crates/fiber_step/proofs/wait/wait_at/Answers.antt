@@ -9,7 +9,6 @@ use Rattle.fiber_types.proofs.RecordsLaws.{hash_len_small}
 use Rattle.fiber_choice.specs.Entries.{entries, tracked_len}
 use Rattle.fiber_choice.proofs.EntriesLaws.{tracked_count, entry_at, entry_room}
 use Rattle.fiber_choice.proofs.WaitsLaws.{wait_none, wait_tlc}
-use borrow.Author.Rules.{rules}
 use Rattle.fiber_step.proofs.wait.wait_at.Goals as goal
 
 pub overflow_add-size : goal.overflow_add-size

@@ -3,7 +3,6 @@ use mathlib.Core.Path.{◌∙◌}
 use native.Mathlib.Omega.{arith}
 use lib.ListN.{length}
 use Rattle.fiber_types.proofs.RecordsLaws.{slot_there, slot_beyond}
-use borrow.Author.Rules.{rules}
 use Rattle.fiber_types.proofs.tlc.key_hash_in.Goals as goal
 
 pub returns-then-tlc-front : goal.returns-then-tlc-front

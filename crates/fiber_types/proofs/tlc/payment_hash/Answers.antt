@@ -1,6 +1,5 @@
 use mathlib.Core.Path.{◌∙◌}
 use Rattle.fiber_types.proofs.RecordsLaws.{payment_hash_lem}
-use borrow.Author.Rules.{rules}
 use Rattle.fiber_types.proofs.tlc.payment_hash.Goals as goal
 
 pub returns : goal.returns

@@ -4,7 +4,6 @@ use lib.ListN.{length}
 use lib.Seq.{length-sets}
 use Rattle.fiber_types.specs.Records.{tlc_bytes}
 use Rattle.fiber_types.proofs.RecordsLaws.{tlc_puts}
-use borrow.Author.Rules.{rules}
 use Rattle.fiber_types.proofs.tlc.put_tlc.Goals as goal
 
 pub shape_of-out : goal.shape_of-out

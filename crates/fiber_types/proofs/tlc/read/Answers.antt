@@ -1,7 +1,6 @@
 -- The tests in order, then the fields.
 use mathlib.Core.Path.{refl, sym, ap, ◌∙◌}
 use native.Mathlib.Omega.{arith}
-use borrow.Author.Tests.{not-true, not-false}
 use Rattle.fiber_types.specs.declared.tlc.TlcRead.TheVariants as TlcCase
 use Rattle.fiber_types.proofs.RecordsLaws.{hash_len_small, tlc_unknown, tlc_cut, tlc_whole, tlc_fields}
 use borrow.Author.Rules.{rules}

@@ -2,7 +2,6 @@
 use mathlib.Core.Logic.{inl, inr}
 use mathlib.Core.Path.{sym, ◌∙◌}
 use native.Mathlib.Omega.{arith}
-use borrow.Author.Tests.{not-true, not-false}
 use Rattle.fiber_types.proofs.RecordsLaws.{tlc_unfit, tlc_short, tlc_written}
 use borrow.Author.Rules.{rules}
 use Rattle.fiber_types.proofs.tlc.write.Goals as goal

@@ -3,7 +3,6 @@ use mathlib.Core.Path.{sym, ◌∙◌}
 use native.Mathlib.Omega.{arith}
 use Rattle.fiber_choice.specs.Request.{request_of}
 use Rattle.fiber_choice.proofs.SettlementsLaws.{leaves_as, first_refused, first_wait, first_begins, first_ready_lem, ready_within}
-use borrow.Author.Rules.{rules}
 use Rattle.fiber_walk.proofs.first.choose_first.Goals as goal
 
 pub first_thirds-requires : goal.first_thirds-requires

@@ -1,7 +1,6 @@
 -- By the choice, then by the way of a TLC.
 -- Each case is one clause of the definition.
 use Rattle.fiber_choice.specs.Settlements.{first_delay}
-use borrow.Author.Rules.{rules}
 use Rattle.fiber_walk.proofs.first.delay_for.Goals as goal
 
 pub returns-in-Share : goal.returns-in-Share

@@ -1,6 +1,5 @@
 -- Each part by its due test.
 use Rattle.fiber_choice.proofs.VerdictsLaws.{dues_as}
-use borrow.Author.Rules.{rules}
 use Rattle.fiber_walk.proofs.first.dues_by.Goals as goal
 
 pub returns : goal.returns

@@ -2,7 +2,6 @@
 -- A place is below 255, so its record begins within 255 tracked TLCs.
 use native.Mathlib.Omega.{arith}
 use Rattle.fiber_choice.proofs.SettlementsLaws.{place_few, place_share, place_tlc}
-use borrow.Author.Rules.{rules}
 use Rattle.fiber_walk.proofs.first.first_place.Goals as goal
 
 pub overflow_mul-result : goal.overflow_mul-result

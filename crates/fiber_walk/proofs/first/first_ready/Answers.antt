@@ -1,6 +1,5 @@
 -- Rows 7, 12 and 20 in their order.
 use Rattle.fiber_choice.proofs.SettlementsLaws.{first_zero, first_many, first_other, first_yes}
-use borrow.Author.Rules.{rules}
 use Rattle.fiber_walk.proofs.first.first_ready.Goals as goal
 
 pub returns-then-lengths_zero : goal.returns-then-lengths_zero

@@ -9,7 +9,6 @@ use Rattle.fiber_choice.specs.Entries.{entries, tracked_len}
 use Rattle.fiber_choice.specs.Request.{request_of}
 use Rattle.fiber_choice.proofs.WalkLaws.{reaches_first}
 use Rattle.fiber_choice.proofs.SettlementsLaws.{within_below, remote_by, local_by, thirds_nothing, thirds_within, thirds_chosen}
-use borrow.Author.Rules.{rules}
 use Rattle.fiber_walk.proofs.first.first_thirds.Goals as goal
 
 pub returns-in_default : goal.returns-in_default

@@ -1,7 +1,6 @@
 -- The due test of epochs that can be compared is never turned down.
 -- So its answer says whether they are due.
 use Rattle.fiber_since.proofs.EpochLaws.{over_due, over_not, over_refused}
-use borrow.Author.Rules.{rules}
 use Rattle.fiber_walk.proofs.first.is_over.Goals as goal
 
 pub returns-in-Due : goal.returns-in-Due

@@ -4,7 +4,6 @@ use mathlib.Core.Path.{sym, ◌∙◌}
 use native.Mathlib.Omega.{arith}
 use Rattle.fiber_witness.proofs.WitnessLaws.{read_fine}
 use Rattle.fiber_choice.proofs.SettlementsLaws.{leaves_as, later_refused, later_whole, later_faulty, later_fine}
-use borrow.Author.Rules.{rules}
 use Rattle.fiber_walk.proofs.later.choose_later.Goals as goal
 
 pub share_left-remote-requires : goal.share_left-remote-requires

@@ -1,12 +1,9 @@
 -- To look from place i on, with k that stand before it, finds what looking at all finds.
 use Prim.Native.Nat.{◌-◌}
-use mathlib.Core.Logic.{⊎_elim}
 use lib.ListN.{get_or}
-use borrow.Author.Tests.{not-true, not-false}
 use Rattle.fiber_witness.specs.inner.Marks.{marked}
 use Rattle.fiber_choice.specs.Settlements.{unsettled}
-use Rattle.fiber_choice.proofs.SettlementsLaws.{Placing, placing_start, placing_end, placing_gone, placing_found, placing_more}
-use borrow.Author.Rules.{rules}
+use Rattle.fiber_choice.proofs.SettlementsLaws.{Placing}
 use Rattle.fiber_walk.proofs.later.first_of.Given as goal
 
 abbrev pub invariant-loop-i : goal.invariant-loop-i

@@ -1,6 +1,5 @@
 -- The test of the definition.
 use Rattle.fiber_choice.proofs.SettlementsLaws.{last_by}
-use borrow.Author.Rules.{rules}
 use Rattle.fiber_walk.proofs.later.is_last.Goals as goal
 
 pub returns : goal.returns

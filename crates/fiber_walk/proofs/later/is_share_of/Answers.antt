@@ -4,7 +4,6 @@ use Prim.Native.Nat.{ℕ}
 use mathlib.Core.List.{List}
 use Rattle.fiber_types.specs.declared.key.KeyHash.{KeyHash}
 use Rattle.fiber_choice.specs.Entries.{same}
-use borrow.Author.Rules.{rules}
 use Rattle.fiber_walk.proofs.later.is_share_of.Goals as goal
 
 pub returns : goal.returns

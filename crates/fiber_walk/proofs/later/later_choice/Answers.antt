@@ -2,7 +2,6 @@
 use mathlib.Core.Path.{◌∙◌}
 use Rattle.fiber_choice.proofs.WalkLaws.{reaches_later}
 use Rattle.fiber_choice.proofs.SettlementsLaws.{choice_picks_share, choice_picks_walk}
-use borrow.Author.Rules.{rules}
 use Rattle.fiber_walk.proofs.later.later_choice.Goals as goal
 
 pub returns-then-last : goal.returns-then-last

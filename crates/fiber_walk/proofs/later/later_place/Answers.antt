@@ -6,7 +6,6 @@ use Rattle.fiber_witness.specs.Witness.{record_len}
 use Rattle.fiber_witness.specs.inner.Marks.{marked}
 use Rattle.fiber_choice.specs.Settlements.{later_place, unsettled}
 use Rattle.fiber_choice.proofs.SettlementsLaws.{place_small}
-use borrow.Author.Rules.{rules}
 use Rattle.fiber_walk.proofs.later.later_place.Goals as goal
 
 pub overflow_mul-result : goal.overflow_mul-result

@@ -1,10 +1,8 @@
 -- Rows 12, 20 and 21 in their order.
 use mathlib.Core.Path.{sym, ◌∙◌}
 use native.Mathlib.Omega.{arith}
-use borrow.Author.Tests.{not-true, not-false}
 use Rattle.fiber_witness.proofs.UpdateLaws.{counted}
 use Rattle.fiber_choice.proofs.SettlementsLaws.{later_many, later_other, later_key, later_yes}
-use borrow.Author.Rules.{rules}
 use Rattle.fiber_walk.proofs.later.later_ready.Goals as goal
 
 pub returns-then-k-gt-MOST_TLCS : goal.returns-then-k-gt-MOST_TLCS

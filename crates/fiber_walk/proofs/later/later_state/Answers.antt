@@ -1,9 +1,7 @@
 -- The rows before the walk, then the walk, then what is handed out.
 -- Where 254 stand at most, and they are the tracked ones, no more are tracked.
-use mathlib.Core.Logic.{inl, inr, ⊎_elim}
 use Rattle.fiber_types.proofs.RecordsLaws.{hash_len_small}
-use Rattle.fiber_choice.proofs.SettlementsLaws.{by_flag, state_refused, state_wait, state_few, state_nothing, state_within, state_chosen}
-use borrow.Author.Rules.{rules}
+use Rattle.fiber_choice.proofs.SettlementsLaws.{state_refused, state_wait, state_few, state_nothing, state_within, state_chosen}
 use Rattle.fiber_walk.proofs.later.later_state.Goals as goal
 
 pub later_ready-requires : goal.later_ready-requires

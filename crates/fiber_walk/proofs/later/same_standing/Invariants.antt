@@ -1,16 +1,11 @@
 -- To compare the rests, from here, gives what comparing all gives; each record that stands takes the next tracked one.
 -- Lists of different lengths are not the same, so where the loop runs a tracked one is left for each that stands.
 use Prim.Native.Nat.{◌-◌}
-use mathlib.Core.Path.{sym, ap₂, ◌∙◌}
-use mathlib.Core.Logic.{⊎_elim}
-use native.Mathlib.Omega.{arith}
-use borrow.Author.Tests.{not-true, not-false}
 use Rattle.fiber_witness.specs.Update.{standing}
 use Rattle.fiber_witness.specs.inner.Marks.{marked}
-use Rattle.fiber_choice.specs.Entries.{same, entries, tracked_len, tracked_records}
+use Rattle.fiber_choice.specs.Entries.{entries, tracked_len, tracked_records}
 use Rattle.fiber_choice.specs.Entries.{same_lists}
-use Rattle.fiber_choice.proofs.SettlementsLaws.{Comparing, record_between, comparing_short, comparing_start, comparing_end, comparing_from, comparing_at, comparing_gone, comparing_differ, comparing_same}
-use borrow.Author.Rules.{rules}
+use Rattle.fiber_choice.proofs.SettlementsLaws.{Comparing}
 use Rattle.fiber_walk.proofs.later.same_standing.Given as goal
 
 abbrev pub invariant-loop-i : goal.invariant-loop-i

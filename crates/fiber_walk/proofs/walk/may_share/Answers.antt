@@ -1,6 +1,5 @@
 -- Each variant is one clause of the definition.
 use Rattle.fiber_choice.specs.Verdicts.{may_share}
-use borrow.Author.Rules.{rules}
 use Rattle.fiber_walk.proofs.walk.may_share.Goals as goal
 
 pub returns-in-First : goal.returns-in-First

@@ -1,7 +1,6 @@
 -- Both tests of the definition.
-use mathlib.Core.Logic.{inl, inr, ⊎_elim}
+use mathlib.Core.Logic.{inl, inr}
 use Rattle.fiber_choice.proofs.WaitsLaws.{noted_next, noted_same}
-use borrow.Author.Rules.{rules}
 use Rattle.fiber_walk.proofs.walk.noted.Goals as goal
 use Rattle.fiber_walk.proofs.walk.noted.Goals.{else-first-place-via-then-first-place+else-left-before, else-first-place-via-else-first-place}
 

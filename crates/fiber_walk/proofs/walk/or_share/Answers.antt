@@ -1,7 +1,5 @@
 -- By whether some are pending, and whether the share may be taken.
-use mathlib.Core.Logic.{⊎_elim}
 use Rattle.fiber_choice.proofs.WalkLaws.{share_taken, share_pending, share_early, share_behind}
-use borrow.Author.Rules.{rules}
 use Rattle.fiber_walk.proofs.walk.or_share.Goals as goal
 use Rattle.fiber_walk.proofs.walk.or_share.Goals.{else-pending-eq0-via-then-pending-eq0+else-may, else-pending-eq0-via-else-pending-eq0}
 

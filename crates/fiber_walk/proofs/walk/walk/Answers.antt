@@ -1,18 +1,14 @@
 -- To walk on from a place, with so many pending, gives what the whole walk gives.
 -- Of those that are not walked yet all are pending, since pending falls by no more than 1 at each.
-use Prim.Native.Nat.{◌+◌, ◌-◌}
+use Prim.Native.Nat.{◌+◌}
 use mathlib.Core.Path.{ap, ◌∙◌}
 use native.Mathlib.Omega.{arith}
 use lib.ListN.{length}
 use Rattle.fiber_bytes.proofs.BytesLaws.{part_length}
 use Rattle.fiber_types.proofs.RecordsLaws.{hash_len_small}
 use Rattle.fiber_witness.proofs.UpdateLaws.{part_between}
-use Rattle.fiber_choice.specs.Entries.{entries, settlement_len, tracked_len, pair_len}
-use Rattle.fiber_choice.specs.Verdicts.{verdicts}
-use Rattle.fiber_choice.specs.inner.Noting.{noting}
 use Rattle.fiber_choice.proofs.EntriesLaws.{along_room, along_few, tracked_count}
-use Rattle.fiber_choice.proofs.WalkLaws.{Walking, walking_start, walking_end, walking_chosen, walking_on}
-use borrow.Author.Rules.{rules}
+use Rattle.fiber_choice.proofs.WalkLaws.{walking_start, walking_end, walking_chosen, walking_on}
 use Rattle.fiber_walk.proofs.walk.walk.Goals as goal
 
 pub overflow_add-size : goal.overflow_add-size

@@ -1,7 +1,6 @@
 -- The walk, then our share where none is left; else the wait for the TLC at the place that the walk noted.
 use Rattle.fiber_choice.specs.Entries.{entries, pair_len}
 use Rattle.fiber_choice.proofs.WalkLaws.{picked_chosen, picked_wait, picked_place}
-use borrow.Author.Rules.{rules}
 use Rattle.fiber_walk.proofs.walk.walked.Goals as goal
 
 pub returns-in-Pending : goal.returns-in-Pending

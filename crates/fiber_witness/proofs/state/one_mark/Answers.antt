@@ -1,6 +1,5 @@
 -- No mark, and then one.
 use Rattle.fiber_witness.proofs.StridedLaws.{marks_one}
-use borrow.Author.Rules.{rules}
 use Rattle.fiber_witness.proofs.state.one_mark.Goals as goal
 
 pub returns : goal.returns

@@ -1,15 +1,7 @@
 -- To write what is left, from here, gives what the whole gives.
 -- Each record that is not marked goes to the front of the part of the output that begins behind the one before it.
-use Prim.Native.Nat.{◌-◌, ◌+◌}
-use mathlib.Core.Path.{ap, ◌∙◌}
-use mathlib.Core.Logic.{⊎_elim}
-use native.Mathlib.Omega.{arith}
-use borrow.Author.Tests.{not-true, not-false}
-use lib.ListN.{take, drop}
-use lib.Seq.{sets}
-use Rattle.fiber_witness.proofs.UpdateLaws.{sets_part, part_between}
-use Rattle.fiber_witness.proofs.StridedLaws.{Writing, writing_start, writing_from, writing_kept, writing_gone, writing_end}
-use borrow.Author.Rules.{rules}
+use Prim.Native.Nat.{◌-◌}
+use Rattle.fiber_witness.proofs.StridedLaws.{Writing}
 use Rattle.fiber_witness.proofs.state.put_records.Given as goal
 
 abbrev pub invariant-loop-i : goal.invariant-loop-i

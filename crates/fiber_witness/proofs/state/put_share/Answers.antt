@@ -1,6 +1,5 @@
 -- One copy, of zeros or of the share, by what the test of the definition says.
 use Rattle.fiber_witness.specs.Update.{share_left}
-use borrow.Author.Rules.{rules}
 use Rattle.fiber_witness.proofs.state.put_share.Goals as goal
 
 pub returns-then-unlocked : goal.returns-then-unlocked

@@ -9,7 +9,6 @@ use Rattle.fiber_witness.specs.inner.Strided.{unmarked}
 use Rattle.fiber_witness.proofs.WitnessLaws.{state_size}
 use Rattle.fiber_witness.proofs.UpdateLaws.{left_length}
 use Rattle.fiber_witness.proofs.StridedLaws.{unmarked_few, state_puts}
-use borrow.Author.Rules.{rules}
 use Rattle.fiber_witness.proofs.state.put_state.Goals as goal
 
 pub overflow_cast-out : goal.overflow_cast-out

@@ -3,7 +3,6 @@ use mathlib.Core.Path.{refl}
 use borrow.Author.Tests.{not-true, not-false}
 use Rattle.fiber_witness.specs.Update.{share_left}
 use Rattle.fiber_witness.proofs.StridedLaws.{share_copied}
-use borrow.Author.Rules.{rules}
 use Rattle.fiber_witness.proofs.state.share_left.Goals as goal
 
 pub returns-then-not-unlocked : goal.returns-then-not-unlocked

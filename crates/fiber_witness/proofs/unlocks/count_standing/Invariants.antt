@@ -1,11 +1,7 @@
 -- Those counted, and those kept from here on, are all that are kept.
 -- It holds of every list of n records, since only the marks are looked at.
 use Prim.Native.Nat.{◌-◌}
-use mathlib.Core.Logic.{⊎_elim}
-use native.Mathlib.Omega.{arith}
-use borrow.Author.Tests.{not-true, not-false}
-use Rattle.fiber_witness.proofs.UpdateLaws.{Counting, counting_start, counting_kept, counting_gone, counting_end}
-use borrow.Author.Rules.{rules}
+use Rattle.fiber_witness.proofs.UpdateLaws.{Counting}
 use Rattle.fiber_witness.proofs.unlocks.count_standing.Given as goal
 
 abbrev pub invariant-loop-i : goal.invariant-loop-i

@@ -1,15 +1,13 @@
 -- Each turn takes one unlock: to take the rest, from what was taken, gives what taking all gives.
 -- The marks say what the list of settled places says. Behind an unlock that is cut short there is none.
-use Prim.Native.Nat.{◌+◌, ◌-◌, ◌≤◌}
+use Prim.Native.Nat.{◌+◌, ◌≤◌}
 use mathlib.Core.Path.{◌≡◌, sym, ◌∙◌}
-use mathlib.Core.Logic.{⊎_elim}
 use native.Mathlib.Omega.{arith}
 use lib.ListN.{length}
 use Rattle.fiber_types.proofs.RoundTrips.{unlock_refused}
 use Rattle.fiber_witness.specs.Witness.{unlock_len}
 use Rattle.fiber_witness.proofs.WitnessLaws.{unlock_long, unlock_whole}
 use Rattle.fiber_witness.proofs.UpdateLaws.{Taking, taking_start, taking_end, taking_local, taking_remote, taking_beyond, taking_twice, taking_tlc}
-use borrow.Author.Rules.{rules}
 use Rattle.fiber_witness.proofs.unlocks.take_unlocks.Goals as goal
 use Rattle.fiber_witness.proofs.unlocks.take_unlocks.Goals.{then-b-eq-UNLOCK_LOCAL, else-b-eq-UNLOCK_LOCAL+then-b-eq-UNLOCK_REMOTE, else-b-eq-UNLOCK_LOCAL+else-b-eq-UNLOCK_REMOTE+else-n-b+else-marks-b}
 

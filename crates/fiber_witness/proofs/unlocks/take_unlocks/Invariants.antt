@@ -1,15 +1,8 @@
 -- Each turn takes one unlock: to take the rest, from what was taken, gives what taking all gives.
 -- The marks say what the list of settled places says. Behind an unlock that is cut short there is none.
-use Prim.Native.Nat.{◌+◌, ◌-◌, ◌≤◌}
-use mathlib.Core.Path.{◌≡◌, sym, ◌∙◌}
-use mathlib.Core.Logic.{⊎_elim}
-use native.Mathlib.Omega.{arith}
+use Prim.Native.Nat.{◌-◌}
 use lib.ListN.{length}
-use Rattle.fiber_types.proofs.RoundTrips.{unlock_refused}
-use Rattle.fiber_witness.specs.Witness.{unlock_len}
-use Rattle.fiber_witness.proofs.WitnessLaws.{unlock_long, unlock_whole}
-use Rattle.fiber_witness.proofs.UpdateLaws.{Taking, taking_start, taking_end, taking_local, taking_remote, taking_beyond, taking_twice, taking_tlc}
-use borrow.Author.Rules.{rules}
+use Rattle.fiber_witness.proofs.UpdateLaws.{Taking}
 use Rattle.fiber_witness.proofs.unlocks.take_unlocks.Given as goal
 
 abbrev pub invariant-loop-at : goal.invariant-loop-at

@@ -2,10 +2,8 @@
 -- The TLC count is a byte.
 use mathlib.Core.Path.{sym, ◌∙◌}
 use native.Mathlib.Omega.{arith}
-use borrow.Author.Tests.{not-true, not-false}
 use Rattle.fiber_types.proofs.RecordsLaws.{hash_len_small}
 use Rattle.fiber_witness.proofs.WitnessLaws.{witness_unknown, witness_short, witness_tlcs}
-use borrow.Author.Rules.{rules}
 use Rattle.fiber_witness.proofs.witness.read.Goals as goal
 
 pub returns-then-not-valid_hash_len : goal.returns-then-not-valid_hash_len

@@ -3,7 +3,6 @@
 use mathlib.Core.Path.{refl, ◌∙◌}
 use native.Mathlib.Omega.{arith}
 use Rattle.fiber_witness.proofs.WitnessLaws.{share_small, whole_room, whole_cut, shares_cut, shares_whole}
-use borrow.Author.Rules.{rules}
 use Rattle.fiber_witness.proofs.witness.read_tlcs.Goals as goal
 
 pub overflow_mul-share_place : goal.overflow_mul-share_place

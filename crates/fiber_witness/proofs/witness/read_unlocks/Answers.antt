@@ -1,11 +1,8 @@
 -- Each turn reads one unlock: what the rest of the places say, from here, is what all of them say.
 -- An unlock has more than one byte, so what is left of the witness falls.
-use Prim.Native.Nat.{◌-◌}
 use mathlib.Core.Path.{sym, ◌∙◌}
 use native.Mathlib.Omega.{arith}
-use lib.ListN.{length}
-use Rattle.fiber_witness.proofs.WitnessLaws.{Reading, reading_start, reading_less, reading_more, reading_cut, reading_end}
-use borrow.Author.Rules.{rules}
+use Rattle.fiber_witness.proofs.WitnessLaws.{reading_start, reading_less, reading_more, reading_cut, reading_end}
 use Rattle.fiber_witness.proofs.witness.read_unlocks.Goals as goal
 
 pub loop-at-init : goal.loop-at-init

@@ -1,6 +1,5 @@
 -- Each case is one call.
 use Rattle.settlement_c.specs.Choose.{choose_answer}
-use borrow.Author.Rules.{rules}
 use Rattle.settlement_c.proofs.choose.answer_choice.Goals as goal
 
 pub returns-in-Chosen : goal.returns-in-Chosen

@@ -1,7 +1,6 @@
 -- Each case gives its three numbers.
 use mathlib.Core.Path.{sym}
 use Rattle.settlement_c.proofs.ChooseLaws.{numbers_remote, numbers_local, numbers_timeout, numbers_preimage}
-use borrow.Author.Rules.{rules}
 use Rattle.settlement_c.proofs.choose.choice_numbers.Goals as goal
 
 pub returns-in-Remote : goal.returns-in-Remote

@@ -2,7 +2,6 @@
 use Rattle.settlement_c.specs.Choose.{decision_numbers}
 use Rattle.settlement_c.specs.inner.Numbers.{choice_numbers}
 use Rattle.settlement_c.proofs.ChooseLaws.{key_two, delay_four}
-use borrow.Author.Rules.{rules}
 use Rattle.settlement_c.proofs.choose.decision_numbers.Goals as goal
 
 pub returns : goal.returns

@@ -1,6 +1,5 @@
 -- Each case gives its numbers.
 use Rattle.settlement_c.specs.Choose.{delay_numbers}
-use borrow.Author.Rules.{rules}
 use Rattle.settlement_c.proofs.choose.delay_numbers.Goals as goal
 
 pub returns-in-None : goal.returns-in-None

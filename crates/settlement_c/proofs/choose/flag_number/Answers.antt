@@ -1,6 +1,5 @@
 -- One way each.
 use Rattle.settlement_c.specs.Choose.{flag_number}
-use borrow.Author.Rules.{rules}
 use Rattle.settlement_c.proofs.choose.flag_number.Goals as goal
 
 pub returns-then-flag : goal.returns-then-flag

@@ -1,6 +1,5 @@
 -- Each case gives its numbers.
 use Rattle.settlement_c.specs.Choose.{key_numbers}
-use borrow.Author.Rules.{rules}
 use Rattle.settlement_c.proofs.choose.key_numbers.Goals as goal
 
 pub returns-in-Settlement : goal.returns-in-Settlement

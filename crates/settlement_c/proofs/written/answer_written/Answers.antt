@@ -1,6 +1,5 @@
 -- Each case is one call.
 use Rattle.settlement_c.specs.Settlement.{written_answer}
-use borrow.Author.Rules.{rules}
 use Rattle.settlement_c.proofs.written.answer_written.Goals as goal
 
 pub returns-in-Bytes : goal.returns-in-Bytes

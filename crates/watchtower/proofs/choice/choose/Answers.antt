@@ -1,11 +1,9 @@
 -- Row 14, then the delay, then the settlement.
 -- What is lent well, with a delay that is an epoch, has what each of the two settlements asks.
 use mathlib.Core.Path.{sym, ◌∙◌}
-use borrow.Author.Tests.{not-true, not-false}
 use Rattle.fiber_choice.proofs.RequestLaws.{delay_epoch, valid}
 use Rattle.fiber_choice.proofs.SettlementsLaws.{leaves_as}
 use Rattle.fiber_choice.proofs.ChoiceLaws.{choice_invalid, choice_refused, choice_later, choice_first}
-use borrow.Author.Rules.{rules}
 use Rattle.watchtower.proofs.choice.choose.Goals as goal
 
 pub returns-then-not-valid_request : goal.returns-then-not-valid_request

@@ -4,7 +4,6 @@ use mathlib.Core.Path.{ap, ◌∙◌}
 use borrow.Author.Tests.{not-true, not-false}
 use Rattle.fiber_since.specs.declared.epoch.Scaled.TheVariants as ScaledCase
 use Rattle.fiber_choice.proofs.RequestLaws.{delay_short, delay_absolute, delay_metric}
-use borrow.Author.Rules.{rules}
 use Rattle.watchtower.proofs.choice.delay_of.Goals as goal
 
 pub returns-then-args-lt36 : goal.returns-then-args-lt36

@@ -1,6 +1,5 @@
 -- What was handed out names the part; without it the part is empty.
 use Rattle.fiber_choice.specs.Choice.{record_of}
-use borrow.Author.Rules.{rules}
 use Rattle.watchtower.proofs.choice.record_of.Goals as goal
 
 pub returns-in-Chosen : goal.returns-in-Chosen

@@ -1,6 +1,5 @@
 -- The flag says which of the two lists it is a part of.
 use Rattle.fiber_choice.specs.Choice.{record_part}
-use borrow.Author.Rules.{rules}
 use Rattle.watchtower.proofs.choice.record_part.Goals as goal
 
 pub returns-then-is_later : goal.returns-then-is_later

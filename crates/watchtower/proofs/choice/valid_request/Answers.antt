@@ -2,10 +2,8 @@
 -- The answer is the same, since all of it has to hold.
 use mathlib.Core.Path.{sym, ◌∙◌}
 use native.Mathlib.Omega.{arith}
-use borrow.Author.Tests.{not-true, not-false}
 use Rattle.fiber_types.proofs.RecordsLaws.{hash_len_small}
 use Rattle.fiber_choice.proofs.RequestLaws.{valid_unknown, valid_data_lem, valid_tracked_lem, valid_pairs, valid_header, valid_current, valid_tlcs}
-use borrow.Author.Rules.{rules}
 use Rattle.watchtower.proofs.choice.valid_request.Goals as goal
 
 pub returns-then-not-valid_hash_len : goal.returns-then-not-valid_hash_len

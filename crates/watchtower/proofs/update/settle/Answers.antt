@@ -8,7 +8,6 @@ use Rattle.fiber_bytes.proofs.BytesLaws.{part_length}
 use Rattle.fiber_witness.specs.inner.Strided.{behind_tlcs}
 use Rattle.fiber_witness.proofs.UpdateLaws.{part_between, counted, counted_room, counted_flat, counted_size, settled_refused, settled_short, settled_written}
 use Rattle.fiber_witness.proofs.StridedLaws.{unmarked_standing, unmarked_left}
-use borrow.Author.Rules.{rules}
 use Rattle.watchtower.proofs.update.settle.Goals as goal
 
 pub overflow_mul-size : goal.overflow_mul-size

@@ -4,7 +4,6 @@ use mathlib.Core.Path.{sym, ◌∙◌}
 use native.Mathlib.Omega.{arith}
 use Rattle.fiber_witness.proofs.WitnessLaws.{read_fine}
 use Rattle.fiber_witness.proofs.UpdateLaws.{updated_refused, updated_whole}
-use borrow.Author.Rules.{rules}
 use Rattle.watchtower.proofs.update.update.Goals as goal
 
 pub settle-requires : goal.settle-requires

@@ -1,6 +1,5 @@
 -- Each case is a row.
 use Rattle.fiber_choice.specs.Waits.{cause_number}
-use borrow.Author.Rules.{rules}
 use Rattle.watchtower.proofs.wait.cause_number.Goals as goal
 
 pub returns-in-NoExpiry : goal.returns-in-NoExpiry

@@ -1,6 +1,5 @@
 -- Each case is a row, or that of its cause.
 use Rattle.fiber_choice.specs.Waits.{wait_number}
-use borrow.Author.Rules.{rules}
 use Rattle.watchtower.proofs.wait.number.Goals as goal
 
 pub returns-in-ListDiffers : goal.returns-in-ListDiffers

@@ -1,6 +1,5 @@
 -- Each case is a place.
 use Rattle.fiber_choice.specs.Waits.{wait_place}
-use borrow.Author.Rules.{rules}
 use Rattle.watchtower.proofs.wait.place.Goals as goal
 
 pub returns-in-ListDiffers : goal.returns-in-ListDiffers
