@@ -1,5 +1,5 @@
 // Stored preimages as a list of structs: a lent slice, each struct two arrays of 32 bytes. `find_pair` is the one function that carries such a
-// slice, and is proved by hand; each comparison stands in a function on plain arrays. A form beside the upper face, for whoever lends such a
+// slice; each comparison stands in a function on plain arrays. A form beside the upper face, for whoever lends such a
 // list; no crate of the core uses it, the program `forms` runs it. Uses fiber_first, and types and definitions of fiber_choice.
 #![tactic(auto)]
 

@@ -1,6 +1,6 @@
 // Replays data/oracle.txt, a fixed list of the Rust's answers, and prints how many of the port's answers agree.
 //
-// The list's top says how it was made and what a line holds. Each case is one call of an export of the C interface, and
+// The list's top says how it was made and what a line holds. Each case is one call of a function of the C interface, and
 // status, answer buffer and output buffer are compared whole, so that a byte written where none belongs is seen.
 // A program; uses the C interface, fiber_bytes, fiber_first, test_lines, and std for the file.
 #![tactic(auto)]

@@ -12,7 +12,7 @@ use std::time::{Clock, Duration};
 // minute without either counts as a failure.
 const AGAIN: u32 = 6_000;
 
-// Ten milliseconds. A signal may end it early.
+// Ten milliseconds.
 fn pause(clock: &impl Clock) {
     thread::sleep(clock, Duration::from_millis(10));
 }

@@ -1,6 +1,6 @@
 // The reference's `WitnessReader`: a struct that holds the rest of a witness, with `take` and `is_empty` alone, and `read` over it, which answers as
-// the cursor `watchtower::witness::read` does. Every function that carries the struct is proved by hand, so few do and none of them decides
-// anything: what was taken goes to functions on plain slices and numbers. A form beside the upper face, for whoever wants the reference's; no crate
+// the cursor `watchtower::witness::read` does. Few functions carry the struct and none of them decides anything: what was taken goes to functions
+// on plain slices and numbers. A form beside the upper face, for whoever wants the reference's; no crate
 // of the core uses it, the program `forms` runs it. Uses the two faces and fiber_bytes.
 #![tactic(auto)]
 
