@@ -31,4 +31,7 @@ pub returns : goal.returns
 returns c =
     let l = c.loop-i in
     let a = c.args in
-    record { value = omega (arith, by_length a.highest a.src.now); out_after = by_end a.highest l.out a.src.now (a.at + 2 * l.i) l.i (search rules) ∙ l.invariant.1.1 }
+    record {
+      value = omega (arith, by_length a.highest a.src.now);
+      out_after = by_end a.highest l.out a.src.now (a.at + 2 * l.i) l.i (search rules) ∙ l.invariant.1.1;
+    }

@@ -63,7 +63,10 @@ bounds-out-0 c = omega (arith, c.if-out-size.false)
 pub put_first_tlcs-requires : goal.put_first_tlcs-requires
 put_first_tlcs-requires c =
     let a = c.args in
-    record { h_value = ((sym c.valid_hash_len.ensures ∙ c.if-not-valid_hash_len.false), data_valid a.h a.for_remote (given_data a.tlcs.now a.local_amount a.remote_amount a.local_key.now a.remote_key.now) a.out.now (sym c.valid_hash_len.ensures ∙ c.if-not-valid_hash_len.false) (sym (c.valid_data.ensures a.local_amount a.remote_amount) ∙ c.if-not-valid_data.false)); tlcs_in_bounds = simp length-set (omega (arith, c.if-out-size.false, data_flat a.h a.for_remote (given_data a.tlcs.now a.local_amount a.remote_amount a.local_key.now a.remote_key.now) a.out.now (sym c.valid_hash_len.ensures ∙ c.if-not-valid_hash_len.false) (sym (c.valid_data.ensures a.local_amount a.remote_amount) ∙ c.if-not-valid_data.false) c.if-n-gt255.false)) }
+    record {
+      h_value = ((sym c.valid_hash_len.ensures ∙ c.if-not-valid_hash_len.false), data_valid a.h a.for_remote (given_data a.tlcs.now a.local_amount a.remote_amount a.local_key.now a.remote_key.now) a.out.now (sym c.valid_hash_len.ensures ∙ c.if-not-valid_hash_len.false) (sym (c.valid_data.ensures a.local_amount a.remote_amount) ∙ c.if-not-valid_data.false));
+      tlcs_in_bounds = simp length-set (omega (arith, c.if-out-size.false, data_flat a.h a.for_remote (given_data a.tlcs.now a.local_amount a.remote_amount a.local_key.now a.remote_key.now) a.out.now (sym c.valid_hash_len.ensures ∙ c.if-not-valid_hash_len.false) (sym (c.valid_data.ensures a.local_amount a.remote_amount) ∙ c.if-not-valid_data.false) c.if-n-gt255.false));
+    }
 
 pub overflow_sub-size : goal.overflow_sub-size
 overflow_sub-size c = omega arith

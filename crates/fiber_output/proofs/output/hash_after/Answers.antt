@@ -17,7 +17,13 @@ put_state-size-requires c =
     let k =
     after_asks a.h a.tracked.now a.remote.now a.local.now a.p _ c.one_mark-marks.ensures _ a.out.now c.requires.tracked_in_bounds
     (elim c.if-p-n.branch [ then-p-n w ↦ inl (w.if-p-n.true, w.count-is) | else-p-n w ↦ inr (w.if-p-n.false, w.count-is) ]) in
-    record { h_bound = (c.requires.h_bound.0, (omega (arith, few_tracked a.h a.tracked.now c.requires.tracked_len_bound.0), omega (arith, c.requires))); h_in_bounds = tracked_whole a.h a.tracked.now; k_value = k.0; remote_len = c.requires.h_bound.1; marks_in_bounds = k.1 }
+    record {
+      h_bound = (c.requires.h_bound.0, (omega (arith, few_tracked a.h a.tracked.now c.requires.tracked_len_bound.0), omega (arith, c.requires)));
+      h_in_bounds = tracked_whole a.h a.tracked.now;
+      k_value = k.0;
+      remote_len = c.requires.h_bound.1;
+      marks_in_bounds = k.1;
+    }
 
 pub slice_bounds-ckb_hash-end : goal.slice_bounds-ckb_hash-end
 slice_bounds-ckb_hash-end c =
@@ -33,4 +39,7 @@ returns c =
     let w = after_written a.h a.tracked.now a.remote.now a.local.now a.p _ c.one_mark-marks.ensures _ a.out.now _ c.put_state-size.ensures in
     let after = plan_after (tlcs a.h a.tracked.now) a.remote.now a.local.now a.p in
     let z = after_size (tlcs a.h a.tracked.now) a.remote.now a.local.now a.p c.requires.h_bound.1.0 c.requires.h_bound.1.1 in
-    record { value = c.ckb_hash.ensures ∙ ap ckb_hash (read_back a.out.now after _ _ w.0 w.1 (omega (arith, c.requires.tracked_in_bounds, z))); out_after = w.1 }
+    record {
+      value = c.ckb_hash.ensures ∙ ap ckb_hash (read_back a.out.now after _ _ w.0 w.1 (omega (arith, c.requires.tracked_in_bounds, z)));
+      out_after = w.1;
+    }

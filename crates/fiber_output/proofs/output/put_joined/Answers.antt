@@ -8,7 +8,10 @@ use Rattle.fiber_output.proofs.output.put_joined.Goals as goal
 pub put_unlock-requires : goal.put_unlock-requires
 put_unlock-requires c =
     let a = c.args in
-    record { byte_bound = (c.requires.tracked_len_bound.1.1, unlock_room a.h a.args.now a.tracked.now a.preimages.now a.remote.now a.local.now a.p c.requires.tracked_len_bound.1.0 c.requires.h_bound.1.0 c.requires.h_bound.1.1 c.requires.pair_whole.0 a.out.now c.requires.p_in_bounds _ c.unlock_size-at.ensures); pair_whole = c.requires.pair_whole.0 }
+    record {
+      byte_bound = (c.requires.tracked_len_bound.1.1, unlock_room a.h a.args.now a.tracked.now a.preimages.now a.remote.now a.local.now a.p c.requires.tracked_len_bound.1.0 c.requires.h_bound.1.0 c.requires.h_bound.1.1 c.requires.pair_whole.0 a.out.now c.requires.p_in_bounds _ c.unlock_size-at.ensures);
+      pair_whole = c.requires.pair_whole.0;
+    }
 
 pub slice_bounds-hash_after-count : goal.slice_bounds-hash_after-count
 slice_bounds-hash_after-count c =
@@ -23,7 +26,11 @@ slice_bounds-hash_after-start c =
 pub hash_after-hash-requires : goal.hash_after-hash-requires
 hash_after-hash-requires c =
     let a = c.args in
-    record { h_bound = c.requires.h_bound; tracked_len_bound = (c.requires.tracked_len_bound.0, c.requires.pair_whole.1); tracked_in_bounds = part_room a.h a.args.now a.tracked.now a.preimages.now a.remote.now a.local.now a.p c.requires.tracked_len_bound.1.0 c.requires.h_bound.1.0 c.requires.h_bound.1.1 c.requires.pair_whole.0 a.out.now c.requires.p_in_bounds _ c.unlock_size-at.ensures _ c.put_unlock.ensures }
+    record {
+      h_bound = c.requires.h_bound;
+      tracked_len_bound = (c.requires.tracked_len_bound.0, c.requires.pair_whole.1);
+      tracked_in_bounds = part_room a.h a.args.now a.tracked.now a.preimages.now a.remote.now a.local.now a.p c.requires.tracked_len_bound.1.0 c.requires.h_bound.1.0 c.requires.h_bound.1.1 c.requires.pair_whole.0 a.out.now c.requires.p_in_bounds _ c.unlock_size-at.ensures _ c.put_unlock.ensures;
+    }
 
 pub slice_bounds-put_state-count : goal.slice_bounds-put_state-count
 slice_bounds-put_state-count c =
@@ -39,7 +46,13 @@ pub put_state-size-requires : goal.put_state-size-requires
 put_state-size-requires c =
     let a = c.args in
     let k = before_asks a.h a.args.now a.tracked.now a.preimages.now a.remote.now a.local.now a.p c.requires.tracked_len_bound.1.0 c.requires.h_bound.1.0 c.requires.h_bound.1.1 c.requires.pair_whole.0 a.out.now c.requires.p_in_bounds _ c.unlock_size-at.ensures _ c.put_unlock.ensures _ c.hash_after-hash.ensures.out_after _ c.no_marks-marks.ensures in
-    record { h_bound = (c.requires.h_bound.0, (omega (arith, few_tracked a.h a.tracked.now c.requires.tracked_len_bound.0), omega (arith, c.requires))); h_in_bounds = tracked_whole a.h a.tracked.now; k_value = k.0; remote_len = c.requires.h_bound.1; marks_in_bounds = k.1 }
+    record {
+      h_bound = (c.requires.h_bound.0, (omega (arith, few_tracked a.h a.tracked.now c.requires.tracked_len_bound.0), omega (arith, c.requires)));
+      h_in_bounds = tracked_whole a.h a.tracked.now;
+      k_value = k.0;
+      remote_len = c.requires.h_bound.1;
+      marks_in_bounds = k.1;
+    }
 
 pub overflow_add-at : goal.overflow_add-at
 overflow_add-at c =
@@ -49,7 +62,10 @@ overflow_add-at c =
 pub put_args-requires : goal.put_args-requires
 put_args-requires c =
     let a = c.args in
-    record { in_bounds = (c.requires.tracked_len_bound.1.0, hash_length (plan_after (tlcs a.h a.tracked.now) a.remote.now a.local.now a.p) _ c.hash_after-hash.ensures.value); at_in_bounds = new_room a.h a.args.now a.tracked.now a.preimages.now a.remote.now a.local.now a.p c.requires.tracked_len_bound.1.0 c.requires.h_bound.1.0 c.requires.h_bound.1.1 c.requires.pair_whole.0 a.out.now c.requires.p_in_bounds _ c.unlock_size-at.ensures _ c.put_unlock.ensures _ c.hash_after-hash.ensures.out_after _ c.no_marks-marks.ensures _ _ c.put_state-size.ensures }
+    record {
+      in_bounds = (c.requires.tracked_len_bound.1.0, hash_length (plan_after (tlcs a.h a.tracked.now) a.remote.now a.local.now a.p) _ c.hash_after-hash.ensures.value);
+      at_in_bounds = new_room a.h a.args.now a.tracked.now a.preimages.now a.remote.now a.local.now a.p c.requires.tracked_len_bound.1.0 c.requires.h_bound.1.0 c.requires.h_bound.1.1 c.requires.pair_whole.0 a.out.now c.requires.p_in_bounds _ c.unlock_size-at.ensures _ c.put_unlock.ensures _ c.hash_after-hash.ensures.out_after _ c.no_marks-marks.ensures _ _ c.put_state-size.ensures;
+    }
 
 pub returns : goal.returns
 returns c =

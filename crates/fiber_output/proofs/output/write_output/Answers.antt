@@ -41,7 +41,12 @@ pub put_joined-requires : goal.put_joined-requires
 put_joined-requires c =
     let a = c.args in
     let k = planned a.h a.args.now a.tracked.now a.preimages.now a.out.now a.remote a.local a.choice _ c.plan_of-p.ensures c.requires.h_value.1.1 (search rules) (search rules) (within_pairs _ _ _ c.requires.within) c.requires.h_value.1.0 (within_tlcs _ _ _ c.requires.within) in
-    record { h_bound = (hash_len_small a.h c.requires.h_value.0, (search rules, search rules)); tracked_len_bound = (c.requires.h_value.1.0, (c.requires.h_value.1.1, k.0)); pair_whole = k.1; p_in_bounds = omega (arith, c.if-out-size.false, handed_size a.h a.args.now a.tracked.now a.preimages.now a.out.now a.remote a.local a.choice _ c.plan_of-p.ensures c.requires.h_value.1.1 (search rules) (search rules) (within_pairs _ _ _ c.requires.within) a.last a.key a.delay a.place _ _ c.unlock_size-unlock_len.ensures c.new_args_len-args_len.ensures) }
+    record {
+      h_bound = (hash_len_small a.h c.requires.h_value.0, (search rules, search rules));
+      tracked_len_bound = (c.requires.h_value.1.0, (c.requires.h_value.1.1, k.0));
+      pair_whole = k.1;
+      p_in_bounds = omega (arith, c.if-out-size.false, handed_size a.h a.args.now a.tracked.now a.preimages.now a.out.now a.remote a.local a.choice _ c.plan_of-p.ensures c.requires.h_value.1.1 (search rules) (search rules) (within_pairs _ _ _ c.requires.within) a.last a.key a.delay a.place _ _ c.unlock_size-unlock_len.ensures c.new_args_len-args_len.ensures);
+    }
 
 pub amount_of-amount-requires : goal.amount_of-amount-requires
 amount_of-amount-requires c =

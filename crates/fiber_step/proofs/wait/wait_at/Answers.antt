@@ -27,7 +27,10 @@ pub cause_of-requires : goal.cause_of-requires
 cause_of-requires c =
     let few = tracked_count c.args.h c.args.tracked.now in
     let r = entry_room (98 + c.args.h) c.args.tracked.now c.args.first c.if-tracked-size.false in
-    record { h_value = (c.requires.h_value.0, ap length c.part_of.ensures ∙ part_length c.args.tracked.now (c.args.first * (98 + c.args.h)) (98 + c.args.h) r); place_bound = (omega (arith, few, c.requires.h_value.1, c.if-tracked-size.false), c.requires.reaches_all _ (omega (arith, few, c.if-tracked-size.false))) }
+    record {
+      h_value = (c.requires.h_value.0, ap length c.part_of.ensures ∙ part_length c.args.tracked.now (c.args.first * (98 + c.args.h)) (98 + c.args.h) r);
+      place_bound = (omega (arith, few, c.requires.h_value.1, c.if-tracked-size.false), c.requires.reaches_all _ (omega (arith, few, c.if-tracked-size.false)));
+    }
 
 pub returns : goal.returns
 returns c time ps w f =

@@ -11,7 +11,11 @@ first_thirds-requires c =
     let q = request_of a.scalars a.args.now a.tlcs.now a.local_key.now a.remote_key.now a.tracked.now a.preimages.now in
     let e = c.first_ready.ensures a.args.now a.local_key.now a.remote_key.now a.preimages.now in
     let r = first_ready_lem q a.full (sym e ∙ c.in-Yes.is) in
-    record { h_value = (c.requires.h_value.0, (omega (arith, r.few, r.many), c.requires.h_value.1.1)); tlcs_len = r.many; bounded = ready_within q a.full r c.requires.header_value.0 c.requires.header_value.1.0 c.requires.header_value.1.1 }
+    record {
+      h_value = (c.requires.h_value.0, (omega (arith, r.few, r.many), c.requires.h_value.1.1));
+      tlcs_len = r.many;
+      bounded = ready_within q a.full r c.requires.header_value.0 c.requires.header_value.1.0 c.requires.header_value.1.1;
+    }
 
 pub returns-in-Refused : goal.returns-in-Refused
 returns-in-Refused c =

@@ -52,7 +52,10 @@ pub write_output-requires : goal.write_output-requires
 write_output-requires c =
     let a = c.args in
     let q = request_of a.scalars a.args.now a.tlcs.now a.local_key.now a.remote_key.now a.tracked.now a.preimages.now in
-    record { h_value = c.requires.h_value; within = thirds_within q c.args.out.now _ _ _ _ _ c.mul.ensures c.in-Epoch.is c.mul-2.ensures c.in-Epoch-mul.is _ c.dues_by-dues.ensures _ c.walked.ensures _ _ c.in-Chosen.is c.requires.tlcs_len }
+    record {
+      h_value = c.requires.h_value;
+      within = thirds_within q c.args.out.now _ _ _ _ _ c.mul.ensures c.in-Epoch.is c.mul-2.ensures c.in-Epoch-mul.is _ c.dues_by-dues.ensures _ c.walked.ensures _ _ c.in-Chosen.is c.requires.tlcs_len;
+    }
 
 pub returns-in-Chosen : goal.returns-in-Chosen
 returns-in-Chosen c =

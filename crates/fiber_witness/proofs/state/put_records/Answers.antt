@@ -31,4 +31,8 @@ loop-i-preserved c =
     ]
 
 pub returns : goal.returns
-returns c = record { value = (writing_end _ _ _ _ _ _ _ _ _ _ _ c.loop-i.invariant c.loop-i-test.false).0; out_after = (writing_end _ _ _ _ _ _ _ _ _ _ _ c.loop-i.invariant c.loop-i-test.false).1 }
+returns c =
+    record {
+      value = (writing_end _ _ _ _ _ _ _ _ _ _ _ c.loop-i.invariant c.loop-i-test.false).0;
+      out_after = (writing_end _ _ _ _ _ _ _ _ _ _ _ c.loop-i.invariant c.loop-i-test.false).1;
+    }

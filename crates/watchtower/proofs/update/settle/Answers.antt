@@ -32,7 +32,13 @@ put_state-requires c =
     let e = unmarked_standing a.h w a.n c.take_unlocks-j.result.marks in
     let r = part_length w share_place 36 (omega (arith, c.requires)) in
     let l = part_length w (share_place + 36) 36 (omega (arith, c.requires)) in
-    record { h_bound = (c.requires.h_bound.0, (c.requires.h_bound.1, omega (arith, c.requires))); h_in_bounds = omega (arith, c.requires); k_value = counted a.h w a.n _ _ c.count_standing-k.ensures ∙ ap length (sym e); remote_len = (ap length (part_between w share_place 36) ∙ r, ap length (part_between w (share_place + 36) 36) ∙ l); marks_in_bounds = rw e (omega (arith, c.if-out-size.false, counted_flat a.h w a.n _ _ c.count_standing-k.ensures (omega (arith, c.requires)))) }
+    record {
+      h_bound = (c.requires.h_bound.0, (c.requires.h_bound.1, omega (arith, c.requires)));
+      h_in_bounds = omega (arith, c.requires);
+      k_value = counted a.h w a.n _ _ c.count_standing-k.ensures ∙ ap length (sym e);
+      remote_len = (ap length (part_between w share_place 36) ∙ r, ap length (part_between w (share_place + 36) 36) ∙ l);
+      marks_in_bounds = rw e (omega (arith, c.if-out-size.false, counted_flat a.h w a.n _ _ c.count_standing-k.ensures (omega (arith, c.requires))));
+    }
 
 pub returns-in-Refused : goal.returns-in-Refused
 returns-in-Refused c =
