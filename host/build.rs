@@ -1,13 +1,14 @@
 //! Finds libsettlement_c.a and links it: in the folder that SETTLEMENT_LIB names, else in ../target/staticlib, where
-//! the repository's toolchain writes it, else in ../lib, where a package has it. Without one nothing is linked, and a
+//! the repository's tools/libraries writes it, else in ../lib, where a package has it. Without one nothing is linked, and a
 //! warning says so: `cargo doc` and `cargo check` need none.
 
 use std::path::{Path, PathBuf};
 use std::{env, process};
 
 const ARCHIVE: &str = "libsettlement_c.a";
-const HOW: &str = "run `rt staticlib settlement_c` in the repository's root, or set SETTLEMENT_LIB to the absolute path of \
-                   the folder that holds libsettlement_c.a";
+const HOW: &str =
+    "run `tools/libraries` in the repository's root, or set SETTLEMENT_LIB to the absolute path of the \
+                   folder that holds libsettlement_c.a";
 
 fn fail(what: &str) -> ! {
     eprintln!("fiber_settlement: {what}: {HOW}.");
