@@ -44,6 +44,9 @@ pub fn settlement_tlc_witness(h: usize, for_remote: bool, tlc: &[u8], out: &mut 
     Written::Bytes(size)
 }
 
+// The count of TLCs is one byte.
+const MOST_COUNTED: usize = 255;
+
 // Writes the first state: n, records, remote share, local share; without for_remote the sides are swapped.
 pub fn settlement_data_witness(
     h: usize,
@@ -76,7 +79,7 @@ pub fn settlement_data_witness(
         };
     }
     let n = tlcs.len() / SETTLEMENT_TLC;
-    if 255 < n {
+    if MOST_COUNTED < n {
         return Written::Refused {
             number: 12,
             place: 0,

@@ -3,6 +3,13 @@ ghost use Rattle.std.specs.Prelude.{◌≡◌, ◌<◌};
 ghost use Rattle.fiber_since.specs.Epoch as S;
 ghost use Rattle.fiber_since.specs.inner.Bounds.{checked_mul, Bounded};
 
+// The longest epoch; the largest number of an epoch; an index, of 16 bits, is below its limit.
+const LONGEST: u64 = 1800;
+
+const MOST_WHOLE: u64 = 16_777_215;
+
+const INDEX_LIMIT: u64 = 0x1_0000;
+
 #[derive(Clone, Copy)]
 pub struct Epoch {
     pub number: u64,
@@ -50,7 +57,7 @@ pub fn within_bits(e: Epoch) -> bool
     if 0x100_0000 <= e.number {
         return false;
     }
-    if 0x1_0000 <= e.index {
+    if INDEX_LIMIT <= e.index {
         return false;
     }
     e.length < 0x1_0000
@@ -73,7 +80,7 @@ fn checked_mul(a: u64, b: u64) -> Product
 fn factor(d: u64) -> u64
     ensures { (result ≡ S.factor d) × (0 < result) }
 {
-    if 1800 < d { d / 1800 + 1 } else { 1 }
+    if LONGEST < d { d / 1800 + 1 } else { 1 }
 }
 
 // The fraction n / d as an epoch.
@@ -86,7 +93,7 @@ fn normalized(n: u64, d: u64) -> Scaled
             place: 0,
         };
     }
-    if 16_777_215 < n / d {
+    if MOST_WHOLE < n / d {
         return Scaled::Refused {
             number: 8,
             place: 0,

@@ -2,6 +2,9 @@
 ghost use Rattle.std.specs.Prelude.{◌≡◌};
 ghost use Rattle.fiber_since.specs.Since as S;
 
+// The last second whose milliseconds fit 64 bits.
+const LAST_SECOND: u64 = 18_446_744_073_709_551;
+
 #[derive(Clone, Copy)]
 pub enum Metric {
     Block,
@@ -54,7 +57,7 @@ pub fn from_raw_value(raw: u64) -> Since
 fn millis(seconds: u64) -> Expiry
     ensures { result ≡ S.millis seconds }
 {
-    if seconds <= 18_446_744_073_709_551 {
+    if seconds <= LAST_SECOND {
         Expiry::At(seconds * 1000)
     } else {
         Expiry::None

@@ -38,11 +38,14 @@ impl Tlc {
     }
 }
 
+// A payment hash cut short.
+const SHORT_HASH: usize = 20;
+
 // Whether hashes can have h bytes: 20, or 32 on a channel with full hashes.
 pub fn valid_hash_len(h: usize) -> bool
     ensures { result ≡ S.valid_hash_len h }
 {
-    if h == 20 {
+    if h == SHORT_HASH {
         return true;
     }
     h == 32

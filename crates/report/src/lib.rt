@@ -17,6 +17,9 @@ use fiber_types::answer::Written;
 use fiber_types::layout::{RECORD_FIXED, SHARE_AMOUNT, SHARE_LEN};
 use watchtower::update::update;
 
+// A longer input is turned down.
+const MOST_INPUT: usize = 65_536;
+
 fn put_byte(out: &mut [u8], at: usize, b: u8)
     ensures { out.new ≡ set out.old at b }
 {
@@ -180,7 +183,7 @@ pub fn report(input: &[u8], buffer: &mut [u8], out: &mut [u8]) -> usize
     if input.len() < 1 {
         return put_refused(out, 14, 0);
     }
-    if 65_536 < input.len() {
+    if MOST_INPUT < input.len() {
         return put_refused(out, 14, 0);
     }
     let h = input[0] as usize;

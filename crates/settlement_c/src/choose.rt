@@ -4,6 +4,7 @@ ghost use Rattle.c_answer.specs.Answers.{answered, Leaves};
 ghost use Rattle.settlement_c.specs.Choose as S;
 ghost use Rattle.settlement_c.specs.inner.Numbers as I;
 
+use crate::written::HIGHEST_FLAG;
 use c_answer::front::{accept, refuse};
 use fiber_types::epoch::Epoch;
 use fiber_types::layout::{UNLOCK_LOCAL, UNLOCK_REMOTE};
@@ -133,10 +134,10 @@ pub fn fiber_settlement_choose(
     if answer.len() < CHOOSE_ANSWER {
         return 14;
     }
-    if 1 < for_remote {
+    if HIGHEST_FLAG < for_remote {
         return refuse(answer, 14, 0);
     }
-    if 1 < is_later {
+    if HIGHEST_FLAG < is_later {
         return refuse(answer, 14, 0);
     }
     let scalars = Scalars {

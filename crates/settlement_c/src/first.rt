@@ -2,7 +2,7 @@
 ghost use Rattle.c_answer.specs.Answers.{Leaves};
 ghost use Rattle.settlement_c.specs.Settlement as S;
 
-use crate::written::{UPDATE_ANSWER, answer_written};
+use crate::written::{HIGHEST_FLAG, UPDATE_ANSWER, answer_written};
 use c_answer::front::refuse;
 use fiber_types::tlc::Amount;
 use watchtower::first;
@@ -21,7 +21,7 @@ pub fn fiber_settlement_tlc_record(
     if answer.len() < UPDATE_ANSWER {
         return 14;
     }
-    if 1 < for_remote {
+    if HIGHEST_FLAG < for_remote {
         return refuse(answer, 14, 0);
     }
     let written = first::settlement_tlc_witness(h as usize, for_remote == 1, tlc, out);
@@ -49,7 +49,7 @@ pub fn fiber_settlement_first_state(
     if answer.len() < UPDATE_ANSWER {
         return 14;
     }
-    if 1 < for_remote {
+    if HIGHEST_FLAG < for_remote {
         return refuse(answer, 14, 0);
     }
     let local = Amount {

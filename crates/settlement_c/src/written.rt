@@ -9,6 +9,9 @@ use fiber_types::answer::Written;
 // The bytes that it takes.
 pub const UPDATE_ANSWER: usize = 24;
 
+// A flag is 0 or 1.
+pub const HIGHEST_FLAG: u8 = 1;
+
 pub fn answer_written(answer: &mut [u8], written: Written) -> u64
     ensures { Leaves (answered (S.written_answer written) [] answer.old) result [] answer.new }
 {

@@ -8,6 +8,13 @@ ghost use Rattle.test_lines.specs.Lines as S;
 
 use std::num::wrapping_add_u64;
 
+// The character 9, the end of a line, and the digits that a byte has.
+const NINE: u8 = 57;
+
+const NEWLINE: u8 = 10;
+
+const DIGITS: usize = 2;
+
 // The value of a digit, decimal or hexadecimal.
 pub fn digit(b: u8) -> u8
     ensures { (result ≡ S.digit b) × (result ≤ 15) }
@@ -15,7 +22,7 @@ pub fn digit(b: u8) -> u8
     if b < 48 {
         return 0;
     }
-    if b <= 57 {
+    if b <= NINE {
         return b - 48;
     }
     if b < 97 {
@@ -34,7 +41,7 @@ pub fn hex_at(s: &[u8], i: usize) -> u8
     if s.len() <= i {
         return 0;
     }
-    if s.len() - i < 2 {
+    if s.len() - i < DIGITS {
         return 0;
     }
     digit(s[i]) * 16 + digit(s[i + 1])
@@ -107,7 +114,7 @@ pub fn find(s: &[u8], at: usize, b: u8) -> usize
         if s[i] == b {
             return i;
         }
-        if s[i] == 10 {
+        if s[i] == NEWLINE {
             return i;
         }
         i += 1;

@@ -16,11 +16,14 @@ use fiber_types::tlc::valid_hash_len;
 use fiber_walk::first::choose_first;
 use fiber_walk::later::choose_later;
 
+// The lock args in front of the state hash.
+const LEAST_ARGS: usize = 36;
+
 // The delay in the lock args: 10 below 36 bytes, 11 where bytes 20 to 27 are no relative epoch since.
 fn delay_of(args: &[u8]) -> Scaled
     ensures { result ≡ delay_of args.now }
 {
-    if args.len() < 36 {
+    if args.len() < LEAST_ARGS {
         return Scaled::Refused {
             number: 10,
             place: 0,

@@ -10,10 +10,10 @@ returns-then-input-lt1 c =
     let a = c.args in
     says_none a.input.now a.buffer.now a.out.now (search rules) _ _ (c.put_refused.ensures.value, c.put_refused.ensures.out_after)
 
-pub returns-then-input-gt65536 : goal.returns-then-input-gt65536
-returns-then-input-gt65536 c =
+pub returns-then-input-gt-MOST_INPUT : goal.returns-then-input-gt-MOST_INPUT
+returns-then-input-gt-MOST_INPUT c =
     let a = c.args in
-    says_long a.input.now a.buffer.now a.out.now (search rules) _ _ (c.put_refused-then-input-gt65536.ensures.value, c.put_refused-then-input-gt65536.ensures.out_after)
+    says_long a.input.now a.buffer.now a.out.now (search rules) _ _ (c.put_refused-then-input-gt-MOST_INPUT.ensures.value, c.put_refused-then-input-gt-MOST_INPUT.ensures.out_after)
 
 pub overflow_cast-h : goal.overflow_cast-h
 overflow_cast-h c = omega (arith, c.type_inv.input 0)

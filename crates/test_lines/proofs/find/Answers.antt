@@ -14,17 +14,17 @@ returns-then-s-i c =
     let l = c.loop-i in
     record { value = find_here a.s.now a.b l.i _ l.invariant.2 (search rules) c.if-s-i.true; lower_bound = search rules }
 
-pub returns-then-s-i-eq10 : goal.returns-then-s-i-eq10
-returns-then-s-i-eq10 c =
+pub returns-then-s-i-eq-NEWLINE : goal.returns-then-s-i-eq-NEWLINE
+returns-then-s-i-eq-NEWLINE c =
     let a = c.args in
     let l = c.loop-i in
-    record { value = find_line a.s.now a.b l.i _ l.invariant.2 (search rules) c.if-s-i.false c.if-s-i-eq10.true; lower_bound = search rules }
+    record { value = find_line a.s.now a.b l.i _ l.invariant.2 (search rules) c.if-s-i.false c.if-s-i-eq-NEWLINE.true; lower_bound = search rules }
 
 pub loop-i-preserved : goal.loop-i-preserved
 loop-i-preserved c =
     let a = c.args in
     let l = c.loop-i in
-    (search rules, search rules, find_on a.s.now a.b l.i _ l.invariant.2 (search rules) c.if-s-i.false c.if-s-i-eq10.false)
+    (search rules, search rules, find_on a.s.now a.b l.i _ l.invariant.2 (search rules) c.if-s-i.false c.if-s-i-eq-NEWLINE.false)
 
 pub returns : goal.returns
 returns c =

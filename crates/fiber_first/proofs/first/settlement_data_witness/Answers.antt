@@ -31,10 +31,10 @@ returns-then-not-valid_data c =
     let a = c.args in
     data_bad a.h a.for_remote (given_data a.tlcs.now a.local_amount a.remote_amount a.local_key.now a.remote_key.now) a.out.now (sym c.valid_hash_len.ensures ∙ c.if-not-valid_hash_len.false) (sym (c.valid_data.ensures a.local_amount a.remote_amount) ∙ c.if-not-valid_data.true)
 
-pub returns-then-n-gt255 : goal.returns-then-n-gt255
-returns-then-n-gt255 c =
+pub returns-then-n-gt-MOST_COUNTED : goal.returns-then-n-gt-MOST_COUNTED
+returns-then-n-gt-MOST_COUNTED c =
     let a = c.args in
-    data_many a.h a.for_remote (given_data a.tlcs.now a.local_amount a.remote_amount a.local_key.now a.remote_key.now) a.out.now (sym c.valid_hash_len.ensures ∙ c.if-not-valid_hash_len.false) (sym (c.valid_data.ensures a.local_amount a.remote_amount) ∙ c.if-not-valid_data.false) c.if-n-gt255.true
+    data_many a.h a.for_remote (given_data a.tlcs.now a.local_amount a.remote_amount a.local_key.now a.remote_key.now) a.out.now (sym c.valid_hash_len.ensures ∙ c.if-not-valid_hash_len.false) (sym (c.valid_data.ensures a.local_amount a.remote_amount) ∙ c.if-not-valid_data.false) c.if-n-gt-MOST_COUNTED.true
 
 pub overflow_add-size : goal.overflow_add-size
 overflow_add-size c = omega (arith, hash_len_small _ (sym c.valid_hash_len.ensures ∙ c.if-not-valid_hash_len.false))
@@ -42,20 +42,20 @@ overflow_add-size c = omega (arith, hash_len_small _ (sym c.valid_hash_len.ensur
 pub overflow_mul-size : goal.overflow_mul-size
 overflow_mul-size c =
     let a = c.args in
-    omega (arith, data_small a.h a.for_remote (given_data a.tlcs.now a.local_amount a.remote_amount a.local_key.now a.remote_key.now) a.out.now (sym c.valid_hash_len.ensures ∙ c.if-not-valid_hash_len.false) (sym (c.valid_data.ensures a.local_amount a.remote_amount) ∙ c.if-not-valid_data.false) c.if-n-gt255.false)
+    omega (arith, data_small a.h a.for_remote (given_data a.tlcs.now a.local_amount a.remote_amount a.local_key.now a.remote_key.now) a.out.now (sym c.valid_hash_len.ensures ∙ c.if-not-valid_hash_len.false) (sym (c.valid_data.ensures a.local_amount a.remote_amount) ∙ c.if-not-valid_data.false) c.if-n-gt-MOST_COUNTED.false)
 
 pub overflow_add-size-2 : goal.overflow_add-size-2
 overflow_add-size-2 c =
     let a = c.args in
-    omega (arith, data_small a.h a.for_remote (given_data a.tlcs.now a.local_amount a.remote_amount a.local_key.now a.remote_key.now) a.out.now (sym c.valid_hash_len.ensures ∙ c.if-not-valid_hash_len.false) (sym (c.valid_data.ensures a.local_amount a.remote_amount) ∙ c.if-not-valid_data.false) c.if-n-gt255.false)
+    omega (arith, data_small a.h a.for_remote (given_data a.tlcs.now a.local_amount a.remote_amount a.local_key.now a.remote_key.now) a.out.now (sym c.valid_hash_len.ensures ∙ c.if-not-valid_hash_len.false) (sym (c.valid_data.ensures a.local_amount a.remote_amount) ∙ c.if-not-valid_data.false) c.if-n-gt-MOST_COUNTED.false)
 
 pub returns-then-out-size : goal.returns-then-out-size
 returns-then-out-size c =
     let a = c.args in
-    data_short a.h a.for_remote (given_data a.tlcs.now a.local_amount a.remote_amount a.local_key.now a.remote_key.now) a.out.now (sym c.valid_hash_len.ensures ∙ c.if-not-valid_hash_len.false) (sym (c.valid_data.ensures a.local_amount a.remote_amount) ∙ c.if-not-valid_data.false) c.if-n-gt255.false c.if-out-size.true
+    data_short a.h a.for_remote (given_data a.tlcs.now a.local_amount a.remote_amount a.local_key.now a.remote_key.now) a.out.now (sym c.valid_hash_len.ensures ∙ c.if-not-valid_hash_len.false) (sym (c.valid_data.ensures a.local_amount a.remote_amount) ∙ c.if-not-valid_data.false) c.if-n-gt-MOST_COUNTED.false c.if-out-size.true
 
 pub overflow_cast-out : goal.overflow_cast-out
-overflow_cast-out c = omega (arith, c.if-n-gt255.false)
+overflow_cast-out c = omega (arith, c.if-n-gt-MOST_COUNTED.false)
 
 pub bounds-out-0 : goal.bounds-out-0
 bounds-out-0 c = omega (arith, c.if-out-size.false)
@@ -65,7 +65,7 @@ put_first_tlcs-requires c =
     let a = c.args in
     record {
       h_value = ((sym c.valid_hash_len.ensures ∙ c.if-not-valid_hash_len.false), data_valid a.h a.for_remote (given_data a.tlcs.now a.local_amount a.remote_amount a.local_key.now a.remote_key.now) a.out.now (sym c.valid_hash_len.ensures ∙ c.if-not-valid_hash_len.false) (sym (c.valid_data.ensures a.local_amount a.remote_amount) ∙ c.if-not-valid_data.false));
-      tlcs_in_bounds = simp length-set (omega (arith, c.if-out-size.false, data_flat a.h a.for_remote (given_data a.tlcs.now a.local_amount a.remote_amount a.local_key.now a.remote_key.now) a.out.now (sym c.valid_hash_len.ensures ∙ c.if-not-valid_hash_len.false) (sym (c.valid_data.ensures a.local_amount a.remote_amount) ∙ c.if-not-valid_data.false) c.if-n-gt255.false));
+      tlcs_in_bounds = simp length-set (omega (arith, c.if-out-size.false, data_flat a.h a.for_remote (given_data a.tlcs.now a.local_amount a.remote_amount a.local_key.now a.remote_key.now) a.out.now (sym c.valid_hash_len.ensures ∙ c.if-not-valid_hash_len.false) (sym (c.valid_data.ensures a.local_amount a.remote_amount) ∙ c.if-not-valid_data.false) c.if-n-gt-MOST_COUNTED.false));
     }
 
 pub overflow_sub-size : goal.overflow_sub-size
@@ -87,7 +87,7 @@ slice_bounds-put-end-2 c =
 pub returns : goal.returns
 returns c =
     let a = c.args in
-    data_puts a.h a.for_remote (given_data a.tlcs.now a.local_amount a.remote_amount a.local_key.now a.remote_key.now) a.out.now (sym c.valid_hash_len.ensures ∙ c.if-not-valid_hash_len.false) (sym (c.valid_data.ensures a.local_amount a.remote_amount) ∙ c.if-not-valid_data.false) c.if-n-gt255.false c.if-out-size.false _ _ _ _ _
+    data_puts a.h a.for_remote (given_data a.tlcs.now a.local_amount a.remote_amount a.local_key.now a.remote_key.now) a.out.now (sym c.valid_hash_len.ensures ∙ c.if-not-valid_hash_len.false) (sym (c.valid_data.ensures a.local_amount a.remote_amount) ∙ c.if-not-valid_data.false) c.if-n-gt-MOST_COUNTED.false c.if-out-size.false _ _ _ _ _
     c.share_by-remote.ensures c.share_by-local.ensures c.put_first_tlcs.ensures c.put.ensures c.put-2.ensures
 
 pub shape_of-out : goal.shape_of-out

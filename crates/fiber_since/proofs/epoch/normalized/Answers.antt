@@ -7,10 +7,10 @@ pub returns-then-d-eq0 : goal.returns-then-d-eq0
 unfolding normalized
 returns-then-d-eq0 c = simp (eq-eqb _ _ c.if-d-eq0.true)
 
-pub returns-then-n-d-gt16777215 : goal.returns-then-n-d-gt16777215
+pub returns-then-n-d-gt-MOST_WHOLE : goal.returns-then-n-d-gt-MOST_WHOLE
 unfolding normalized
-returns-then-n-d-gt16777215 c = simp (ne_eqb _ _ c.if-d-eq0.false, lt-ltb _ _ c.if-n-d-gt16777215.true)
+returns-then-n-d-gt-MOST_WHOLE c = simp (ne_eqb _ _ c.if-d-eq0.false, lt-ltb _ _ c.if-n-d-gt-MOST_WHOLE.true)
 
 pub returns : goal.returns
 unfolding normalized
-returns c = simp (ne_eqb _ _ c.if-d-eq0.false, le-ltb _ _ c.if-n-d-gt16777215.false, c.factor-s.ensures.0)
+returns c = simp (ne_eqb _ _ c.if-d-eq0.false, le-ltb _ _ c.if-n-d-gt-MOST_WHOLE.false, c.factor-s.ensures.0)

@@ -8,9 +8,9 @@ pub returns-then-e-ge16777216 : goal.returns-then-e-ge16777216
 unfolding within_bits
 returns-then-e-ge16777216 c = simp (le-ltb _ _ c.if-e-ge16777216.true)
 
-pub returns-then-e-ge65536 : goal.returns-then-e-ge65536
+pub returns-then-e-ge-INDEX_LIMIT : goal.returns-then-e-ge-INDEX_LIMIT
 unfolding within_bits
-returns-then-e-ge65536 c = simp (lt-ltb _ _ c.if-e-ge16777216.false, le-ltb _ _ c.if-e-ge65536.true)
+returns-then-e-ge-INDEX_LIMIT c = simp (lt-ltb _ _ c.if-e-ge16777216.false, le-ltb _ _ c.if-e-ge-INDEX_LIMIT.true)
 
 pub returns : goal.returns
-returns c = bits_length c.args.e c.if-e-ge16777216.false c.if-e-ge65536.false
+returns c = bits_length c.args.e c.if-e-ge16777216.false c.if-e-ge-INDEX_LIMIT.false

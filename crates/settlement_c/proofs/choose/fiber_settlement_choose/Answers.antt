@@ -8,13 +8,13 @@ pub returns-then-answer-lt-CHOOSE_ANSWER : goal.returns-then-answer-lt-CHOOSE_AN
 unfolding choose_call
 returns-then-answer-lt-CHOOSE_ANSWER c = flags_short _ _ _ _ _ _ (search rules)
 
-pub returns-then-for_remote-gt1 : goal.returns-then-for_remote-gt1
+pub returns-then-for_remote-gt-HIGHEST_FLAG : goal.returns-then-for_remote-gt-HIGHEST_FLAG
 unfolding choose_call
-returns-then-for_remote-gt1 c = flags_refused _ _ _ _ _ _ (first_no_flag _ _ (search rules)) (search rules) c.refuse.ensures
+returns-then-for_remote-gt-HIGHEST_FLAG c = flags_refused _ _ _ _ _ _ (first_no_flag _ _ (search rules)) (search rules) c.refuse.ensures
 
-pub returns-then-is_later-gt1 : goal.returns-then-is_later-gt1
+pub returns-then-is_later-gt-HIGHEST_FLAG : goal.returns-then-is_later-gt-HIGHEST_FLAG
 unfolding choose_call
-returns-then-is_later-gt1 c = flags_refused _ _ _ _ _ _ (second_no_flag _ _ (search rules) (search rules)) (search rules) c.refuse-then-is_later-gt1.ensures
+returns-then-is_later-gt-HIGHEST_FLAG c = flags_refused _ _ _ _ _ _ (second_no_flag _ _ (search rules) (search rules)) (search rules) c.refuse-then-is_later-gt-HIGHEST_FLAG.ensures
 
 pub returns : goal.returns
 unfolding choose_call

@@ -8,9 +8,9 @@ pub returns-then-answer-lt-UPDATE_ANSWER : goal.returns-then-answer-lt-UPDATE_AN
 unfolding first_state_call flagged_call
 returns-then-answer-lt-UPDATE_ANSWER c = flags_short _ _ _ _ _ _ (search rules)
 
-pub returns-then-for_remote-gt1 : goal.returns-then-for_remote-gt1
+pub returns-then-for_remote-gt-HIGHEST_FLAG : goal.returns-then-for_remote-gt-HIGHEST_FLAG
 unfolding first_state_call flagged_call
-returns-then-for_remote-gt1 c = flags_refused _ _ _ _ _ _ (no_flag _ (search rules)) (search rules) c.refuse.ensures
+returns-then-for_remote-gt-HIGHEST_FLAG c = flags_refused _ _ _ _ _ _ (no_flag _ (search rules)) (search rules) c.refuse.ensures
 
 pub returns : goal.returns
 unfolding first_state_call flagged_call
