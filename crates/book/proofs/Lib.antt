@@ -1,4 +1,4 @@
--- The proof of the third demand, `demand3` of Demand3Proof.antt, and that of the amount, `pays-amount` of PaidProof.antt.
+-- The proof of the third demand, `demand3` of Demand3Proof.antt, and that of the amount, pays_amount of PaidProof.antt.
 pub mod AmountLaws
 pub mod StateLaws
 pub mod SharesLaws

@@ -1,4 +1,4 @@
--- Laws of `choiceByte` in `specs/HandedOut.antt`: the unlock's byte, by the choice.
+-- Laws of `choice_byte` in `specs/HandedOut.antt`: the unlock's byte, by the choice.
 -- Assumes nothing.
 use Prim.Native.Nat.{ℕ}
 use mathlib.Core.Path.{◌≡◌, refl}

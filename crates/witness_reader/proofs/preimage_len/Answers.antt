@@ -1,4 +1,4 @@
--- Each test says which case of `preimageLen` holds. Assumes nothing.
+-- Each test says which case of `preimage_len` holds. Assumes nothing.
 use Rattle.witness_reader.proofs.ReaderLaws.{preimage_short, preimage_there, preimage_none}
 use Rattle.witness_reader.proofs.preimage_len.Goals as goal
 
