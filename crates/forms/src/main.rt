@@ -14,9 +14,10 @@ use fiber_step::preimage;
 use fiber_types::layout::{PAIR, TRACKED_FIXED};
 use fiber_types::tlc::valid_hash_len;
 use preimage_list::Preimage;
+use std::fs::File;
+use std::io;
 use std::num::{wrapping_add_u64, wrapping_add_usize};
-use std::{fs, io};
-use test_lines::{find, number, unhex};
+use test_lines::{find, number, read_full, unhex};
 use watchtower::witness;
 use watchtower::witness::WitnessRead;
 
@@ -237,9 +238,18 @@ fn print(rt: &impl Print, name: &str, c: Count) -> io::Result<()> {
     println!(rt; "{name} {agree} agree {differ} differ")
 }
 
+// Longer than the list.
+fn text_buffer() -> [u8; 500_000]
+    ensures { 500000 ≡ length result }
+{
+    [0; 500_000]
+}
+
 fn main(rt: HostRuntime) -> io::Result<()> {
-    let text = fs::read(&rt, "inputs.txt")?;
-    let c = all(&text);
+    let mut file = File::open(&rt, "inputs.txt")?;
+    let mut text = text_buffer();
+    let n = read_full(&mut file, &mut text)?;
+    let c = all(&text[..n]);
     let readers = c.readers;
     let searches = c.searches;
     print(&rt, "readers", readers)?;

@@ -16,9 +16,10 @@ use settlement_c::lower::{
     fiber_settlement_key_hash, fiber_settlement_scale, fiber_settlement_sha256,
 };
 use settlement_c::settlement::{fiber_settlement_read, fiber_settlement_update};
+use std::fs::File;
+use std::io;
 use std::num::{wrapping_add_u64, wrapping_add_usize, wrapping_sub_u64};
-use std::{fs, io};
-use test_lines::{find, number, unhex};
+use test_lines::{find, number, read_full, unhex};
 
 // In a packed line the i-th input is at 8 i: a number, or where the bytes of a byte string start, all of which stand here.
 const TEXTS: usize = 256;
@@ -313,7 +314,16 @@ fn all(rt: &impl Print, s: &[u8]) -> io::Result<()> {
     print(rt, t)
 }
 
+// Longer than the list.
+fn text_buffer() -> [u8; 1_000_000]
+    ensures { 1000000 ≡ length result }
+{
+    [0; 1_000_000]
+}
+
 fn main(rt: HostRuntime) -> io::Result<()> {
-    let text = fs::read(&rt, "oracle.txt")?;
-    all(&rt, &text)
+    let mut file = File::open(&rt, "oracle.txt")?;
+    let mut text = text_buffer();
+    let n = read_full(&mut file, &mut text)?;
+    all(&rt, &text[..n])
 }

@@ -1,12 +1,29 @@
 // Reads lists of test cases for the programs `vectors`, `replay` and `forms`, and for no other crate: a case to a line, fields parted by single blanks.
-// Uses nothing.
+// Uses the laws of fiber_bytes, and std for files.
 #![tactic(auto)]
 
-ghost use Rattle.std.specs.Prelude.{◌≡◌, ◌+◌, ◌*◌, ◌/◌, ◌%◌, ◌^◌, ◌≤◌, max, length};
+ghost use Rattle.std.specs.Prelude.{◌≡◌, ◌+◌, ◌*◌, ◌/◌, ◌%◌, ◌^◌, ◌≤◌, max, length, IfOk};
 ghost use Rattle.std.proofs.lemmas.List.Edits.{sets};
 ghost use Rattle.test_lines.specs.Lines as S;
 
+use std::fs::File;
+use std::io::{Read, Result};
 use std::num::wrapping_add_u64;
+
+// Reads until the file ends or buf is full, and answers how many bytes now stand at the start of buf.
+pub fn read_full(file: &mut File, buf: &mut [u8]) -> Result<usize>
+    ensures { IfOk result (λ n. n ≤ length buf.new) }
+{
+    let mut at = 0;
+    while at < buf.len() {
+        let n = file.read(&mut buf[at..])?;
+        if n == 0 {
+            break;
+        }
+        at += n;
+    }
+    Ok(at)
+}
 
 // The character 9, the end of a line, and the digits that a byte has.
 const NINE: u8 = 57;
