@@ -10,19 +10,21 @@ use mathlib.Core.List.{List, [], ◌∷◌, ◌++◌, map, append_assoc, flatten
 use lib.ListN.{length, get_or, take, drop, length-append, length-map, drop_of_length-le}
 use lib.Seq.{sets, sets-eq, take_at, drop_at}
 use lib.Dec.{ltb, leb, eqb}
-use borrow.Author.Tests.{ne_eqb, leb-true, leb-false, ltb-true, ltb-false, eqb-true}
+use borrow.Author.Tests.{leb-true, leb-false, ltb-true, ltb-false, eqb-true}
+use Rattle.std.specs.Prelude.{Result, Err}
+use Rattle.fiber_refusal.specs.declared.Refusal.{Refusal}
+use Rattle.fiber_refusal.specs.declared.Refusal.TheVariants.{WitnessShort, TlcCut, SharesCut, UnlockCut, UnlockUnknown, SettledTwice, LengthZero, ScaledAbove, ArgsShort, NoDelay, TooManyTlcs, OutputShort, NotWell}
+use Rattle.fiber_refusal.specs.Rows.{number_of, place_of}
 use Rattle.fiber_bytes.specs.Bytes.{part, le, le_bytes}
 use Rattle.fiber_bytes.proofs.BytesLaws.{le_bytes_length}
 use Rattle.fiber_bytes.proofs.CaseLaws.{by_test₂}
-use Rattle.fiber_types.specs.declared.answer.Written.{Written}
-use Rattle.fiber_types.specs.declared.answer.Written.TheVariants as WrittenCase
-use Rattle.fiber_types.specs.Records.{valid_hash_len, Outcome, outcome}
+use Rattle.fiber_types.specs.HashLen.{valid_hash_len}
+use Rattle.fiber_types.specs.Records.{Outcome, outcome}
 use Rattle.fiber_types.proofs.RecordsLaws.{hash_len_small, outcome_short, outcome_whole}
 use Rattle.fiber_types.proofs.RoundTrips.{le_le_bytes}
-use Rattle.fiber_witness.specs.declared.witness.WitnessRead.{WitnessRead}
-use Rattle.fiber_witness.specs.declared.witness.WitnessRead.TheVariants as ReadCase
+use Rattle.fiber_witness.specs.declared.witness.WitnessLayout.{WitnessLayout}
 use Rattle.fiber_witness.specs.Unlocks.{unlocks_in}
-use Rattle.fiber_witness.specs.Witness.{record_len, member, places, read_witness}
+use Rattle.fiber_witness.specs.Witness.{record_len, member, places, read_witness, whole, cut_at}
 use Rattle.fiber_witness.specs.Update.{Taken, none, Unlocked, fine, faulty, take_unlocks, keep, state_left, updated}
 use Rattle.fiber_witness.specs.inner.Strided.{behind_tlcs}
 use Rattle.fiber_witness.proofs.WitnessLaws.{witness_unknown}
@@ -67,13 +69,33 @@ by_not : {A B : Type 0} (P : A → B → Type 0) (b : Bool) (x y : A) (x' y' : B
 by_not P true x y x' y' f g = f refl
 by_not P false x y x' y' f g = g refl
 
+-- a refusal is to the book its number and its place
+abbrev refused_by : Refusal → Book → Transition Book BookAnswer
+refused_by r = unmoved (refused (number_of r) (place_of r))
+
+-- no row has the number 0, which is that of success
+no_success : (r : Refusal) → eqb (number_of r) 0 ≡ false
+no_success (WitnessShort length) = refl
+no_success (TlcCut at) = refl
+no_success (SharesCut at) = refl
+no_success (UnlockCut at) = refl
+no_success (UnlockUnknown at) = refl
+no_success (SettledTwice at) = refl
+no_success LengthZero = refl
+no_success ScaledAbove = refl
+no_success ArgsShort = refl
+no_success NoDelay = refl
+no_success TooManyTlcs = refl
+no_success (OutputShort needed) = refl
+no_success NotWell = refl
+
 -- ---- the unlocks of a call: the book's run follows the update's
 
 module _ (room : ℕ) (before : Book) where
   -- what taken unlocks is to the book
   entry_of : ℕ → Unlocked → Transition Book BookAnswer
   entry_of p (fine k from t) = close room before (after before t p)
-  entry_of p (faulty number place) = unmoved (refused number place) before
+  entry_of p (faulty r) = refused_by r before
 
   -- what payees are paid, after what was taken
   abbrev due : Taken → List Payee → List Payment
@@ -103,9 +125,9 @@ module _ (room : ℕ) (before : Book) where
 
       from_tlc : Rising 0 before.standing → (i : ℕ) → From (tlc i)
           (cond (ltb i n)
-          (cond (member i t.settled) (faulty 6 at)
+          (cond (member i t.settled) (faulty (SettledTwice at))
           (take_unlocks n from w (record { settled = i ∷ t.settled; remote = t.remote; local = t.local }) (beginnings (at + length u) us)))
-          (faulty 5 at))
+          (faulty (UnlockUnknown at)))
       unfolding run unless_faulty pay payments total entry_of
       from_tlc order i e =
           let fs = before.standing in
@@ -149,18 +171,12 @@ front_read l front rest x f e b =
     ∙ ap le (take_at (le_bytes 8 x) rest 8 (le_bytes_length 8 x))
     ∙ le_le_bytes 8 x b
 
--- a run of stores from the front stands in front of what it leaves
-sets_front : (vs l : List ℕ) → length vs ≤ length l → sets l 0 vs ≡ vs ++ drop (0 + length vs) l
-sets_front vs l f =
-    let g : 0 + length vs ≤ length l = omega arith in
-    sets-eq vs l 0 g
-
 -- the answer's third number
 third_number : (l : List ℕ) (x : ℕ) → 24 ≤ length l → x < 256 ^ 8 → le (part (sets l 0 ((le_bytes 8 0 ++ le_bytes 8 0) ++ le_bytes 8 x)) 16 8) ≡ x
 third_number l x f b =
     let front = le_bytes 8 0 ++ le_bytes 8 0 in
-    let r : length (front ++ le_bytes 8 x) ≤ length l = omega (arith, length-append front (le_bytes 8 x), pair_length 0 0, le_bytes_length 8 x) in
-    front_read (sets l 0 (front ++ le_bytes 8 x)) front (drop (0 + length (front ++ le_bytes 8 x)) l) x (pair_length 0 0) (sets_front (front ++ le_bytes 8 x) l r) b
+    let r : 0 + length (front ++ le_bytes 8 x) ≤ length l = omega (arith, length-append front (le_bytes 8 x), pair_length 0 0, le_bytes_length 8 x) in
+    front_read (sets l 0 (front ++ le_bytes 8 x)) front _ x (pair_length 0 0) (sets-eq (front ++ le_bytes 8 x) l 0 r) b
 
 -- ---- a call
 
@@ -213,16 +229,16 @@ pub record Turn (b : Book) (c : HostCall) (j : Unlocked) (p : ℕ) (o : OutCall)
   pub how : Stays b o e ⊎ Moves b j p o e
 
 -- an outcome as the host gets it
-abbrev host : HostCall → Outcome Written → OutCall
+abbrev host : HostCall → Outcome (Result ℕ Refusal) → OutCall
 host c o = written_call o c.out c.answer
 
 module _ (b : Book) (c : HostCall) (room : 24 ≤ length c.answer) (j : Unlocked) (p : ℕ) where
-  -- a refusal, by a number that is not 0
-  turned_down : (o : Outcome Written) (k q : ℕ) → (k ≡ 0 → ⊥) → (WrittenCase.Refused k q ≡ o.answer) × (c.out ≡ o.bytes) → Turn b c j p (host c o) (unmoved (refused k q) b)
+  -- a refusal
+  turned_down : (o : Outcome (Result ℕ Refusal)) (r : Refusal) → (Err r ≡ o.answer) × (c.out ≡ o.bytes) → Turn b c j p (host c o) (refused_by r b)
   unfolding returned
-  turned_down o k q f e =
-      rw (called (written_refused o c.out c.answer room c.out e.1 k q e.0 _ refl))
-      (record { same = refl; how = inl (record { status = ne_eqb k 0 f; book = refl }) })
+  turned_down o r e =
+      rw (called (written_refused o c.out c.answer room c.out e.1 r e.0 _ refl))
+      (record { same = refl; how = inl (record { status = no_success r; book = refl }) })
 
   -- the state left is written, or has no room
   wrote_case : (x : Taken) → Ends j x → length (state_of (after b x p)) < 256 ^ 8 → (t : Bool) → leb (length (state_of (after b x p))) (length c.out) ≡ t
@@ -238,7 +254,7 @@ module _ (b : Book) (c : HostCall) (room : 24 ≤ length c.answer) (j : Unlocked
       (simp t (record { same = refl; how = inr (record { status = refl; taken = x; ends = v; book = refl; reads = reads }) }))
   wrote_case x v short false t =
       let s = state_of (after b x p) in
-      simp t (turned_down (outcome true s c.out) 13 (length s) (omega arith) (outcome_short true s c.out refl (length s) refl (leb-false _ _ t)))
+      simp t (turned_down (outcome true s c.out) (OutputShort (length s)) (outcome_short true s c.out refl (length s) refl (leb-false _ _ t)))
 
 -- ---- a call, from its arguments
 
@@ -269,49 +285,49 @@ module _ (h : ℕ) (b : Book) (ok : SoundBook h b) (c : HostCall) where
       omega (arith, sound_length s, mul-le-mul s.few g)
 
   -- what its witness is read as: whole, or with an unlock that is cut short
-  abbrev whole : WitnessRead
-  whole = ReadCase.Whole (length (standing_of b)) (length (places (witness b c) (1 + length (state_of b)))) (shares_at h b) (1 + length (state_of b))
+  abbrev read : Result WitnessLayout Refusal
+  read = whole (length (standing_of b)) (length (places (witness b c) (1 + length (state_of b)))) (shares_at h b) (1 + length (state_of b))
 
-  abbrev cut_at : ℕ
-  cut_at = 1 + length (state_of b) + length (flatten (unlocks c))
+  abbrev cut : ℕ
+  cut = 1 + length (state_of b) + length (flatten (unlocks c))
 
-  read_is : read_witness h (witness b c) ≡ cond (eqb (length (unlocks_in c.behind).rest) 0) whole (ReadCase.Refused 4 cut_at)
+  read_is : read_witness h (witness b c) ≡ cond (eqb (length (unlocks_in c.behind).rest) 0) read (cut_at cut)
   unfolding state_of
-  read_is = read_sound ok.parts c.count c.behind ∙ unlocks_cut (witness b c) (1 + length (state_of b)) c.behind (behind_state b c) (ReadCase.Refused 4) whole
+  read_is = read_sound ok.parts c.count c.behind ∙ unlocks_cut (witness b c) (1 + length (state_of b)) c.behind (behind_state b c) cut_at read
 
   module _ (room : 24 ≤ length c.answer) where
     -- taken unlocks and what the book makes of it
-    answer_case : read_witness h (witness b c) ≡ whole → places (witness b c) (1 + length (state_of b)) ≡ beginnings (1 + length (state_of b)) (unlocks c)
+    answer_case : read_witness h (witness b c) ≡ read → places (witness b c) (1 + length (state_of b)) ≡ beginnings (1 + length (state_of b)) (unlocks c)
         → {j : Unlocked} → Comes (length (standing_of b)) (shares_at h b) j → took h b c ≡ j
         → Turn b c j sum (host c (updated h (witness b c) c.out)) (entry_of (length c.out) b sum j)
     unfolding entry_of
     answer_case e g (comes_fine t) v =
         let s = state_of (after b t sum) in
-        rw (updated_fine h (witness b c) c.out _ _ _ _ e t (rw g v), state_after_lem t sum)
+        rw (updated_fine h (witness b c) c.out _ e t (rw g v), state_after_lem t sum)
         (wrote_case b c room (fine (length (standing_of b)) (shares_at h b) t) sum t refl (short_state t sum) (leb (length s) (length c.out)) refl)
-    answer_case e g (comes_faulty k q f) v =
-        turned_down b c room (faulty k q) sum (updated h (witness b c) c.out) k q f (updated_turned h (witness b c) c.out _ _ _ _ e k q (rw g v))
+    answer_case e g (comes_faulty r) v =
+        turned_down b c room (faulty r) sum (updated h (witness b c) c.out) r (updated_turned h (witness b c) c.out _ e r (rw g v))
 
     -- the channel's h
     channel_case : (g : ℕ) → g ≡ h
         → Turn b c (took h b c) sum (host c (updated g (witness b c) c.out))
-        (cond (eqb (length (unlocks_in c.behind).rest) 0) (run (length c.out) b (1 + length (state_of b)) b (unlocks c)) (unmoved (refused 4 cut_at) b))
+        (cond (eqb (length (unlocks_in c.behind).rest) 0) (run (length c.out) b (1 + length (state_of b)) b (unlocks c)) (refused_by (UnlockCut cut) b))
     channel_case g e =
-        let P : WitnessRead → Transition Book BookAnswer → Type 0 = λ r x. read_witness h (witness b c) ≡ r → Turn b c (took h b c) sum (host c (updated h (witness b c) c.out)) x in
+        let P : Result WitnessLayout Refusal → Transition Book BookAnswer → Type 0 = λ r x. read_witness h (witness b c) ≡ r → Turn b c (took h b c) sum (host c (updated h (witness b c) c.out)) x in
         rw e
         (by_test₂ P (eqb (length (unlocks_in c.behind).rest) 0) _ _ _ _
         (λ t f.
         let none_left : length (unlocks_in c.behind).rest ≤ 0 = omega (arith, eqb-true (length (unlocks_in c.behind).rest) 0 t) in
         let g = unlocks_places (witness b c) (1 + length (state_of b)) c.behind (behind_state b c) (drop_of_length-le (unlocks_in c.behind).rest {i = 0} none_left) in
         rw run_is (answer_case f g (unlocks_come (length (standing_of b)) (shares_at h b) (witness b c) none (beginnings (1 + length (state_of b)) (unlocks c))) refl))
-        (λ _ f. turned_down b c room (took h b c) sum (updated h (witness b c) c.out) 4 cut_at (omega arith) (updated_refused h (witness b c) c.out 4 cut_at f))
+        (λ _ f. turned_down b c room (took h b c) sum (updated h (witness b c) c.out) (UnlockCut cut) (updated_refused h (witness b c) c.out (UnlockCut cut) f))
         read_is)
 
     -- an h that row 14 turns down
-    other_case : (g : ℕ) → valid_hash_len g ≡ false → Turn b c (took h b c) sum (host c (updated g (witness b c) c.out)) (unmoved (refused 14 0) b)
+    other_case : (g : ℕ) → valid_hash_len g ≡ false → Turn b c (took h b c) sum (host c (updated g (witness b c) c.out)) (refused_by NotWell b)
     other_case g e =
-        turned_down b c room (took h b c) sum (updated g (witness b c) c.out) 14 0 (omega arith)
-        (updated_refused g (witness b c) c.out 14 0 (sym (witness_unknown g (witness b c) e)))
+        turned_down b c room (took h b c) sum (updated g (witness b c) c.out) NotWell
+        (updated_refused g (witness b c) c.out NotWell (sym (witness_unknown g (witness b c) e)))
 
   -- each call of the channel follows the book
   pub turn : (c.h ≡ h) ⊎ (valid_hash_len c.h ≡ false) → Turn b c (took h b c) sum (host_transition (state_of b) c).answer (enter b (lengths c))

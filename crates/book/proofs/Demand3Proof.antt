@@ -4,14 +4,15 @@ use Prim.Native.Nat.{ℕ, zero, suc, ◌+◌, ◌≤◌, ◌<◌}
 use native.Mathlib.Nat.{add-zero, le_refl}
 use native.Mathlib.Omega.{arith}
 use mathlib.Core.Path.{◌≡◌, refl, sym, ap, ap₂, subst, subst₂, fun_ext, ◌∙◌}
-use mathlib.Core.Bool.{Bool, true, false, ◌||◌}
-use mathlib.Core.Logic.{◌⊎◌, inl, inr}
+use mathlib.Core.Bool.{true, false, or-true}
+use mathlib.Core.Logic.{◌⊎◌, inl, inr, ⊎_elim}
 use mathlib.Core.List.{List, [], ◌∷◌, ◌++◌, map, flat_map, map-map}
 use lib.ListN.{length, get_or, drop, length-map, drop_of_length-le}
 use lib.Seq.{drop-cons}
 use lib.Dec.{eqb}
-use borrow.Author.Tests.{ne_eqb, eqb-false}
-use Rattle.fiber_types.specs.Records.{valid_hash_len}
+use borrow.Author.Tests.{eq-eqb, ne_eqb}
+use Rattle.fiber_bytes.proofs.BytesLaws.{either}
+use Rattle.fiber_types.specs.HashLen.{valid_hash_len}
 use Rattle.fiber_witness.specs.Witness.{member}
 use Rattle.fiber_witness.specs.Update.{Taken, none}
 use Rattle.fiber_witness.proofs.UpdateLaws.{Ends}
@@ -173,11 +174,9 @@ places_order i (suc n) = rising_more (le_refl i) (places_order (suc i) n)
 places_below : (i n k : ℕ) → i ≤ k → k < i + n → member k (places_from i n) ≡ true
 unfolding places_from
 places_below i zero k f g = absurd (omega arith)
-places_below i (suc n) k f g = rw member_more (go (eqb k i) refl (λ h. places_below (suc i) n k h (omega arith)))
-  where
-    go : (t : Bool) → eqb k i ≡ t → (suc i ≤ k → member k (places_from (suc i) n) ≡ true) → (t || member k (places_from (suc i) n)) ≡ true
-    go true e r = refl
-    go false e r = r (omega (arith, eqb-false k i e))
+places_below i (suc n) k f g =
+    rw member_more
+    (⊎_elim (λ h. rw (places_below (suc i) n k h (omega arith), or-true (eqb k i))) (λ h. rw (eq-eqb k i (omega arith))) (either (suc i) k))
 
 places_beyond : (i n k : ℕ) → i + n ≤ k → member k (places_from i n) ≡ false
 unfolding places_from

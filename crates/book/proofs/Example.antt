@@ -6,8 +6,10 @@ use mathlib.Core.Path.{◌≡◌, refl}
 use mathlib.Core.Logic.{inl}
 use mathlib.Core.List.{List, [], ◌∷◌, ◌++◌, map, flat_map, flatten}
 use lib.ListN.{replicate}
+use Rattle.fiber_refusal.specs.Rows.{number_of}
 use Rattle.fiber_bytes.specs.Bytes.{le, le_bytes}
-use Rattle.fiber_types.specs.Records.{outcome, valid_hash_len}
+use Rattle.fiber_types.specs.HashLen.{valid_hash_len}
+use Rattle.fiber_types.specs.Records.{outcome}
 use Rattle.fiber_choice.specs.declared.kinds.Side.TheVariants.{Remote, Local}
 use Rattle.fiber_witness.specs.Unlocks.{unlock_size, unlocks_within, unlocks_in}
 use Rattle.fiber_witness.specs.Witness.{chunks, state_bytes, member, places_within, places, unless_cut, read_unlocks, read_shares, read_tlcs, read_witness}

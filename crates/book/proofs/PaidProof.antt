@@ -9,9 +9,9 @@ use mathlib.Core.List.{List, [], ◌∷◌, ◌++◌, flat_map}
 use lib.ListN.{length, get_or}
 use lib.Seq.{sets}
 use borrow.Author.Tests.{ne_eqb}
+use Rattle.std.specs.Prelude.{Result, Ok}
+use Rattle.fiber_refusal.specs.declared.Refusal.{Refusal}
 use Rattle.fiber_bytes.specs.Bytes.{part, le_bytes}
-use Rattle.fiber_types.specs.declared.answer.Written.{Written}
-use Rattle.fiber_types.specs.declared.answer.Written.TheVariants as WrittenCase
 use Rattle.fiber_types.specs.declared.tlc.Amount.{Amount}
 use Rattle.fiber_types.specs.Records.{Outcome, amount_of}
 use Rattle.fiber_choice.specs.declared.kinds.Side.{Side}
@@ -85,7 +85,7 @@ module _ (q : Request) (d : Decision) (bytes : List ℕ) (p : Parts q d bytes) w
       → (update_call q.h (count ∷ (state ++ unlock)) into answer).status ≡ 0
   accepts x count into answer f g =
       let len = length x.left in
-      let o : Outcome Written = record { answer = WrittenCase.Bytes len; bytes = sets into 0 x.left } in
+      let o : Outcome (Result ℕ Refusal) = record { answer = Ok len; bytes = sets into 0 x.left } in
       let fields : List ℕ = sets answer 0 ((le_bytes 8 0 ++ le_bytes 8 0) ++ le_bytes 8 len) in
       rw (update_written q.h (count ∷ (state ++ unlock)) into answer, x.updates count into (omega (arith, x.room)))
       (ap (λ (r : OutCall). r.status) (called (written_bytes o into answer g o.bytes refl len refl fields refl)))

@@ -109,12 +109,9 @@ without_sum rs (there w) = omega (arith, without_sum rs w)
 append_paid : (who : Payee) (xs ys : List Payment) → paid_to who (xs ++ ys) ≡ paid_to who xs ++ paid_to who ys
 unfolding paid_to
 append_paid who [] ys = refl
-append_paid who (x ∷ xs) ys = go (same_payee who x.to) (append_paid who xs ys)
-  where
-    go : (b : Bool) → paid_to who (xs ++ ys) ≡ paid_to who xs ++ paid_to who ys
-        → cond b (x.amount ∷ paid_to who (xs ++ ys)) (paid_to who (xs ++ ys)) ≡ cond b (x.amount ∷ paid_to who xs) (paid_to who xs) ++ paid_to who ys
-    go true e = ap (λ (l : List ℕ). x.amount ∷ l) e
-    go false e = e
+append_paid who (x ∷ xs) ys =
+    let e = append_paid who xs ys in
+    by_test₂ (λ (l m : List ℕ). l ≡ m ++ paid_to who ys) (same_payee who x.to) _ _ _ _ (λ _. ap (λ (l : List ℕ). x.amount ∷ l) e) (λ _. e)
 
 pub append_total : (xs ys : List Payment) → sum_of (xs ++ ys) ≡ sum_of xs + sum_of ys
 unfolding total

@@ -4,11 +4,12 @@ use Prim.Native.Nat.{ℕ, zero, suc, ◌+◌, ◌≤◌, ◌<◌}
 use native.Mathlib.Nat.{add-zero, zero-add}
 use native.Mathlib.Omega.{arith}
 use mathlib.Core.Path.{◌≡◌, refl, sym, ap, ◌∙◌, subst}
-use mathlib.Core.Bool.{Bool, true, false, cond, not, false≢true, ◌||◌, or-true}
+use mathlib.Core.Bool.{Bool, true, false, cond, not, false≢true, or-true}
 use mathlib.Core.List.{List, [], ◌∷◌, map}
 use lib.ListN.{length, get_or}
 use lib.Dec.{eqb}
 use borrow.Author.Tests.{eq-eqb, ne_eqb}
+use Rattle.fiber_bytes.proofs.CaseLaws.{by_test, by_test₂}
 use Rattle.fiber_witness.specs.Witness.{member}
 use Rattle.fiber_witness.specs.Update.{keep}
 use Rattle.fiber_witness.proofs.WitnessLaws.{member_none, member_more}
@@ -68,11 +69,10 @@ without_rising (there w) (rising_more g r) = rising_more g (without_rising w r)
 without_none : (f : ℕ) (fs : List ℕ) → member f fs ≡ false → without f fs ≡ fs
 unfolding without
 without_none f [] e = refl
-without_none f (g ∷ fs) e = go (eqb f g) refl (λ m. without_none f fs m) (rw member_more at e)
-  where
-    go : (b : Bool) → eqb f g ≡ b → (member f fs ≡ false → without f fs ≡ fs) → (b || member f fs) ≡ false → without f (g ∷ fs) ≡ g ∷ fs
-    go true e r m = absurd (false≢true (sym m))
-    go false e r m = rw e (ap (λ (l : List ℕ). g ∷ l) (r m))
+without_none f (g ∷ fs) e =
+    by_test (λ (l : List ℕ). l ≡ g ∷ fs) (eqb f g) _ _
+    (λ t. absurd (false≢true (sym (rw (member_more, t) at e))))
+    (λ t. ap (λ (l : List ℕ). g ∷ l) (without_none f fs (rw (member_more, t) at e)))
 
 pub without_is : {f k : ℕ} {fs fs' : List ℕ} → Without f fs fs' → Rising k fs → without f fs ≡ fs'
 unfolding without
@@ -116,12 +116,9 @@ without_at settled i (f ∷ fs) (suc j) h m =
     let e : i + suc j ≡ i + 1 + j = omega arith in
     let m' : member (i + 1 + j) settled ≡ false = rw e at m in
     let more' : Without (get_or fs j 0) (unsettled settled i (f ∷ fs)) (unsettled ((i + 1 + j) ∷ settled) i (f ∷ fs)) =
-    simp (member_more, ne_eqb i (i + 1 + j) (omega arith)) (go (member i settled) (without_at settled (i + 1) fs j (omega arith) m')) in
+    simp (member_more, ne_eqb i (i + 1 + j) (omega arith))
+    (let w = without_at settled (i + 1) fs j (omega arith) m' in by_test₂ (Without (get_or fs j 0)) (member i settled) _ _ _ _ (λ _. w) (λ _. there w)) in
     subst (λ (k : ℕ). Without (get_or fs j 0) (unsettled settled i (f ∷ fs)) (unsettled (k ∷ settled) i (f ∷ fs))) (sym e) more'
-  where
-    go : (b : Bool) {x : ℕ} {ys zs : List ℕ} → Without x ys zs → Without x (cond b ys (f ∷ ys)) (cond b zs (f ∷ zs))
-    go true w = w
-    go false w = there w
 
 -- the records at places: each where its place says, and those that stand
 pub records_at_at : (rs : List (List ℕ)) (fs : List ℕ) (j : ℕ) → j < length fs → get_or (records_at rs fs) j [] ≡ get_or rs (get_or fs j 0) []
@@ -133,21 +130,17 @@ pub records_at_keep : (rs : List (List ℕ)) (settled : List ℕ) (i : ℕ) (fs 
 unfolding unsettled
 records_at_keep rs settled i [] = keep_none settled i
 records_at_keep rs settled i (f ∷ fs) =
-    rw (keep_more settled i (get_or rs f []) (records_at rs fs)) (go (member i settled) (unsettled settled (i + 1) fs) (records_at_keep rs settled (i + 1) fs))
-  where
-    go : (b : Bool) (ys : List ℕ) {xs : List (List ℕ)} → xs ≡ records_at rs ys → cond b xs (get_or rs f [] ∷ xs) ≡ records_at rs (cond b ys (f ∷ ys))
-    go true ys e = e
-    go false ys e = ap (λ (l : List (List ℕ)). get_or rs f [] ∷ l) e
+    let e = records_at_keep rs settled (i + 1) fs in
+    rw (keep_more settled i (get_or rs f []) (records_at rs fs))
+    (by_test₂ (λ (xs : List (List ℕ)) (ys : List ℕ). xs ≡ records_at rs ys) (member i settled) _ _ _ _ (λ _. e) (λ _. ap (λ (l : List (List ℕ)). get_or rs f [] ∷ l) e))
 
 -- the order is kept
 pub unsettled_rising : (settled : List ℕ) (i : ℕ) {k : ℕ} {fs : List ℕ} → Rising k fs → Rising k (unsettled settled i fs)
 unfolding unsettled
 unsettled_rising settled i rising_none = rising_none
-unsettled_rising settled i (rising_more {k = k} {i = f} {is = fs} h r) = go (member i settled) (unsettled_rising settled (i + 1) r)
-  where
-    go : (b : Bool) {gs : List ℕ} → Rising (suc f) gs → Rising k (cond b gs (f ∷ gs))
-    go true x = rising_down x k (omega arith)
-    go false x = rising_more h x
+unsettled_rising settled i (rising_more {k = k} h r) =
+    let x = unsettled_rising settled (i + 1) r in
+    by_test (Rising k) (member i settled) _ _ (λ _. rising_down x k (omega arith)) (λ _. rising_more h x)
 
 -- a place in a rising list is where the list begins or above
 rising_at : {k : ℕ} {fs : List ℕ} → Rising k fs → (j : ℕ) → j < length fs → k ≤ get_or fs j 0
@@ -166,11 +159,8 @@ unsettled_gone settled i (rising_more {i = f} g r) zero h m =
 unsettled_gone settled i (rising_more {i = f} {is = fs} g r) (suc j) h m =
     let e : i + suc j ≡ i + 1 + j = omega arith in
     let a : suc f ≤ get_or fs j 0 = rising_at r j (omega arith) in
-    go (member i settled) (get_or fs j 0) (unsettled settled (i + 1) fs) (unsettled_gone settled (i + 1) r j (omega arith) (rw e at m)) (ne_eqb (get_or fs j 0) f (omega arith))
-  where
-    go : (b : Bool) (x : ℕ) (gs : List ℕ) → member x gs ≡ false → eqb x f ≡ false → member x (cond b gs (f ∷ gs)) ≡ false
-    go true x gs n e = n
-    go false x gs n e = simp (member_more, e) n
+    let n = unsettled_gone settled (i + 1) r j (omega arith) (rw e at m) in
+    by_test (λ (gs : List ℕ). member (get_or fs j 0) gs ≡ false) (member i settled) _ _ (λ _. n) (λ _. simp (member_more, ne_eqb (get_or fs j 0) f (omega arith)) n)
 
 -- a place is one of them where it was not settled
 pub unsettled_member : (settled : List ℕ) {k : ℕ} {fs : List ℕ} → Rising k fs → (j : ℕ) → j < length fs → member (get_or fs j 0) (unsettled settled 0 fs) ≡ not (member j settled)

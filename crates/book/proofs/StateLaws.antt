@@ -9,8 +9,7 @@ use mathlib.Core.List.{List, ◌∷◌, map}
 use lib.ListN.{length, get_or, drop}
 use lib.Seq.{drop-drop}
 use Rattle.fiber_bytes.specs.Bytes.{part}
-use Rattle.fiber_witness.specs.declared.witness.WitnessRead.TheVariants.{Whole}
-use Rattle.fiber_witness.specs.Witness.{record_len, chunks, state_bytes, read_witness}
+use Rattle.fiber_witness.specs.Witness.{record_len, chunks, state_bytes, read_witness, whole}
 use Rattle.fiber_witness.proofs.WitnessLaws.{read_fine, records_none, records_more, records_length}
 use Rattle.fiber_witness.proofs.StateLaws.{Sound, state_tlcs, state_remote, state_local, parts_sound, parts_state}
 use Rattle.fiber_choice.specs.declared.kinds.Side.{Side}
@@ -67,8 +66,8 @@ module _ {h : ℕ} {s : List ℕ} (first : FirstState h s) where
   first_state_lem = rw (same_tlcs h s, same_length h) (parts_state h s long)
 
 -- whatever the reader takes whole, without an unlock behind it and with a byte for its count, is a first state
-pub read_first : (h : ℕ) (s : List ℕ) (n share_place : ℕ) → read_witness h (0 ∷ s) ≡ Whole n 0 share_place (1 + length s) → get_or s 0 0 ≤ 255 → FirstState h s
+pub read_first : (h : ℕ) (s : List ℕ) (n share_place : ℕ) → read_witness h (0 ∷ s) ≡ whole n 0 share_place (1 + length s) → get_or s 0 0 ≤ 255 → FirstState h s
 read_first h s n share_place e f =
-    let r = read_fine h (0 ∷ s) n 0 share_place (1 + length s) e in
+    let r = read_fine h (0 ∷ s) _ e in
     let k : n * record_len h ≡ get_or s 0 0 * record_len h = ap (λ (m : ℕ). m * record_len h) r.count in
     record { hash = r.hash; count = omega arith; size = rw (same_length h) (omega (arith, r.tlcs, r.unlocks, k)) }

@@ -3,7 +3,7 @@
 use Rattle.std.specs.Prelude.{ℕ, zero, suc, ◌+◌, ◌*◌, Bool, true, false, cond, length, get_or, replicate, ltb, leb, eqb}
 use mathlib.Core.List.{List, [], ◌∷◌, map, flatten}
 use Rattle.fiber_bytes.specs.Bytes.{part, le}
-use Rattle.fiber_types.specs.Records.{valid_hash_len}
+use Rattle.fiber_types.specs.HashLen.{valid_hash_len}
 use Rattle.fiber_witness.specs.Unlocks.{unlocks_in}
 use Rattle.fiber_witness.specs.Witness.{state_bytes, member}
 use Rattle.fiber_choice.specs.declared.kinds.Side.{Side}

@@ -4,7 +4,7 @@ use Rattle.std.specs.Prelude.{ℕ, zero, suc, ◌+◌, ◌*◌, ◌≤◌, ◌<�
 use mathlib.Core.List.{List, [], ◌∷◌, ◌++◌, map, flat_map, foldr}
 use Rattle.std.proofs.lemmas.List.Edits.{sets}
 use Rattle.fiber_bytes.specs.Bytes.{part, le, le_bytes}
-use Rattle.fiber_types.specs.Records.{valid_hash_len}
+use Rattle.fiber_types.specs.HashLen.{valid_hash_len}
 use Rattle.fiber_witness.specs.Unlocks.{unlocks_in}
 use Rattle.fiber_witness.specs.Witness.{member}
 use Rattle.fiber_choice.specs.declared.kinds.Side.{Side}

@@ -28,8 +28,8 @@ pub fn accept(answer: &mut [u8], numbers: &[u64]) -> u64
     ensures { S.Leaves (S.answered (S.fields (B.numbers numbers.now)) [] answer.old) result [] answer.new }
 {
     put_front(answer, 0, 0);
-    for i in 0..numbers.len() {
-        put_le64(answer, 16 + 8 * i, numbers[i]);
+    for (i, number) in numbers.iter().enumerate() {
+        put_le64(answer, 16 + 8 * i, *number);
     }
     0
 }

@@ -1,12 +1,18 @@
 -- What the proofs of `blake2b` cite: straight-line code by what each call left, and a turn of each loop.
 -- Assumes nothing.
-use Rattle.std.proofs.Common.{◌≡◌, ℕ, zero, suc, ◌+◌, ◌-◌, ◌*◌, ◌/◌, ◌%◌, ◌^◌, ◌<◌, ◌≤◌, List, [], ◌∷◌, ◌++◌, length, get_or, take, set, sym, refl, ap, ◌∙◌, ap₂, add-one, arith, length-set, length-take, take_all, take-suc-set}
+use Rattle.std.proofs.Common.{◌≡◌, ℕ, zero, suc, ◌+◌, ◌-◌, ◌*◌, ◌/◌, ◌%◌, ◌^◌, ◌<◌, ◌≤◌, List, [], ◌∷◌, ◌++◌, length, get_or, take, set, sym, refl, ap, ◌∙◌, ap₂, add-one, arith, length-set, length-take, take_all}
 use mathlib.Core.List.{flat_map}
-use lib.Seq.{take-nil, take-append-add}
+use mathlib.Core.Bool.{Bool}
+use lib.Dec.{ltb}
+use Rattle.std.specs.List.{All, AllPass, list_all}
+use Rattle.std.proofs.lemmas.Bool.{ltb-true}
+use Rattle.std.proofs.lemmas.List.Sums.{AllPass-from_list_all}
+use lib.Seq.{take-suc, take-nil, take-append-add}
 use lib.Bits.{bit_xor}
 use Rattle.fiber_bytes.specs.Bytes.{part, le, le_bytes, numbers}
 use Rattle.fiber_bytes.specs.Words.{rotated}
 use Rattle.fiber_blake2b.specs.Blake2b.{iv, sigma, added, turned, half, mixed, columns, diagonals, picked, round, rounds, start, folded, words, compressed, absorbed, hashed, params, initial, chain, blake2b, ckb_personal, ckb_hash}
+use Rattle.fiber_bytes.proofs.ArraysLaws.{written}
 use Rattle.fiber_bytes.proofs.BytesLaws.{le_bytes_length, each_length}
 
 -- G
@@ -28,21 +34,23 @@ pub mixed_by : (v u w : List ℕ) (a b c d x y : ℕ) → u ≡ half v a b c d x
 unfolding mixed
 mixed_by v u w a b c d x y e f = cc
 
--- the halves of a round; a round with any row s; the twelve
-pub columns_by : (v v₁ v₂ v₃ v₄ : List ℕ) (a b c d e f g h : ℕ) → v₁ ≡ mixed v 0 4 8 12 a b → v₂ ≡ mixed v₁ 1 5 9 13 c d → v₃ ≡ mixed v₂ 2 6 10 14 e f → v₄ ≡ mixed v₃ 3 7 11 15 g h → v₄ ≡ columns v a b c d e f g h
-unfolding columns
-columns_by v v₁ v₂ v₃ v₄ a b c d e f g h p q r s = cc
+-- a round: its eight steps, in order
+pub round_by : (v v₁ v₂ v₃ v₄ v₅ v₆ v₇ v₈ m s : List ℕ)
+    → v₁ ≡ mixed v 0 4 8 12 (picked m s 0) (picked m s 1) → v₂ ≡ mixed v₁ 1 5 9 13 (picked m s 2) (picked m s 3)
+    → v₃ ≡ mixed v₂ 2 6 10 14 (picked m s 4) (picked m s 5) → v₄ ≡ mixed v₃ 3 7 11 15 (picked m s 6) (picked m s 7)
+    → v₅ ≡ mixed v₄ 0 5 10 15 (picked m s 8) (picked m s 9) → v₆ ≡ mixed v₅ 1 6 11 12 (picked m s 10) (picked m s 11)
+    → v₇ ≡ mixed v₆ 2 7 8 13 (picked m s 12) (picked m s 13) → v₈ ≡ mixed v₇ 3 4 9 14 (picked m s 14) (picked m s 15)
+    → v₈ ≡ round v m s
+unfolding round columns diagonals
+round_by v v₁ v₂ v₃ v₄ v₅ v₆ v₇ v₈ m s e₁ e₂ e₃ e₄ e₅ e₆ e₇ e₈ = cc
 
-pub diagonals_by : (v v₁ v₂ v₃ v₄ : List ℕ) (a b c d e f g h : ℕ) → v₁ ≡ mixed v 0 5 10 15 a b → v₂ ≡ mixed v₁ 1 6 11 12 c d → v₃ ≡ mixed v₂ 2 7 8 13 e f → v₄ ≡ mixed v₃ 3 4 9 14 g h → v₄ ≡ diagonals v a b c d e f g h
-unfolding diagonals
-diagonals_by v v₁ v₂ v₃ v₄ a b c d e f g h p q r s = cc
-
-pub round_by : (v u w m s : List ℕ)
-    → u ≡ columns v (picked m s 0) (picked m s 1) (picked m s 2) (picked m s 3) (picked m s 4) (picked m s 5) (picked m s 6) (picked m s 7)
-    → w ≡ diagonals u (picked m s 8) (picked m s 9) (picked m s 10) (picked m s 11) (picked m s 12) (picked m s 13) (picked m s 14) (picked m s 15)
-    → w ≡ round v m s
-unfolding round
-round_by v u w m s e f = cc
+-- each row of the schedule names words of a block
+pub places : (r : ℕ) → r < 10 → All (λ i. i < 16) (get_or sigma r [])
+unfolding sigma
+places r h k d l =
+    let below : List ℕ → Bool = list_all (λ i. ltb i 16) in
+    let rows : AllPass below sigma = AllPass-from_list_all below sigma refl in
+    ltb-true _ _ (AllPass-from_list_all (λ i. ltb i 16) (get_or sigma r []) (rows r [] h) k d l)
 
 pub rounds_by : (m v v₁ v₂ v₃ v₄ v₅ v₆ v₇ v₈ v₉ v₁₀ v₁₁ v₁₂ : List ℕ)
     → v₁ ≡ round v m (get_or sigma 0 []) → v₂ ≡ round v₁ m (get_or sigma 1 []) → v₃ ≡ round v₂ m (get_or sigma 2 [])
@@ -65,23 +73,21 @@ start_by h t f l =
     let e : t / 2 ^ 64 ≡ 0 = omega arith in
     rw (d, e)
 
-pub folded_more : (h₀ v h : List ℕ) (i : ℕ) → h ≡ folded i h₀ v → set h i (bit_xor (bit_xor (get_or h i 0) (get_or v i 0)) (get_or v (i + 8) 0)) ≡ folded (i + 1) h₀ v
+pub folded_by : (r h v : List ℕ) → length r ≡ 8 → length h ≡ 8 → ((i : ℕ) → i < 8 → get_or r i 0 ≡ bit_xor (bit_xor (get_or h i 0) (get_or v i 0)) (get_or v (i + 8) 0)) → r ≡ folded 8 h v
 unfolding folded
-folded_more h₀ v h i e = rw (add-one, e)
+folded_by r h v n m e =
+    written r h (λ i x. bit_xor (bit_xor x (get_or v i 0)) (get_or v (i + 8) 0)) (λ i. folded i h v) refl (λ i. refl) (n ∙ sym m) (λ i l. e i (omega arith))
+    ∙ ap (λ (k : ℕ). folded k h v) n
 
-pub folded_all : (h₀ v h : List ℕ) (r : ℕ) → r ≤ 8 → 8 ≤ r → h ≡ folded r h₀ v → h ≡ folded 8 h₀ v
-folded_all h₀ v h r l k e =
-    let g : r ≡ 8 = omega arith in
-    e ∙ ap (λ (n : ℕ). folded n h₀ v) g
-
-pub words_more : (s m : List ℕ) (at i r : ℕ) → i < length m → take i m ≡ words i s at → r ≡ le (part s (at + 8 * i) 8) → take (i + 1) (set m i r) ≡ words (i + 1) s at
+words_from : (m s : List ℕ) (at n : ℕ) → n ≤ length m → ((i : ℕ) → i < length m → get_or m i 0 ≡ le (part s (at + 8 * i) 8)) → take n m ≡ words n s at
 unfolding words
-words_more s m at i r h e f = rw add-one (take-suc-set m i r h ∙ ap₂ (λ (l : List ℕ) (x : ℕ). l ++ (x ∷ [])) e f)
+words_from m s at zero h e = refl
+words_from m s at (suc n) h e =
+    take-suc m n 0 (omega arith)
+    ∙ ap₂ (λ (l : List ℕ) (x : ℕ). l ++ (x ∷ [])) (words_from m s at n (omega arith) e) (e n (omega arith))
 
-pub words_all : (s m : List ℕ) (at i : ℕ) → 16 ≤ i → i ≤ 16 → length m ≡ 16 → take i m ≡ words i s at → m ≡ words 16 s at
-words_all s m at i l h e f =
-    let g : i ≡ 16 = omega arith in
-    sym (take_all i m (omega arith)) ∙ f ∙ ap (λ (n : ℕ). words n s at) g
+pub words_by : (m s : List ℕ) (at : ℕ) → length m ≡ 16 → ((i : ℕ) → i < 16 → get_or m i 0 ≡ le (part s (at + 8 * i) 8)) → m ≡ words 16 s at
+words_by m s at n e = sym (take_all 16 m (omega arith)) ∙ words_from m s at 16 (omega arith) (λ i h. e i (omega arith))
 
 pub compressed_by : (h h₁ s m v w : List ℕ) (at t f : ℕ) → m ≡ words 16 s at → v ≡ start h t f → w ≡ rounds 12 v m → h₁ ≡ folded 8 h w → h₁ ≡ compressed h (words 16 s at) t f
 unfolding compressed
@@ -99,12 +105,12 @@ hashed_by h₀ s h k n i e l g p q =
     q ∙ ap₂ (λ (a : List ℕ) (b : ℕ). compressed a (words 16 s (b * 128)) (length s) 0xffff_ffff_ffff_ffff) (p ∙ ap (λ (b : ℕ). absorbed b h₀ s) d) e
 
 -- the parameter block's words: 1 to 5 are 0, and the last two are the personalisation's
-pub initial_by : (p : List ℕ) (d x y : ℕ) → x ≡ le (part p 0 8) → y ≡ le (part p 8 8)
-    → bit_xor 0x6a09_e667_f3bc_c908 (d + 0x101_0000) ∷ 0xbb67_ae85_84ca_a73b ∷ 0x3c6e_f372_fe94_f82b ∷ 0xa54f_f53a_5f1d_36f1
+pub initial_by : (p : List ℕ) (d e x y : ℕ) → e ≡ d → x ≡ le (part p 0 8) → y ≡ le (part p 8 8)
+    → bit_xor 0x6a09_e667_f3bc_c908 (e + 0x101_0000) ∷ 0xbb67_ae85_84ca_a73b ∷ 0x3c6e_f372_fe94_f82b ∷ 0xa54f_f53a_5f1d_36f1
     ∷ 0x510e_527f_ade6_82d1 ∷ 0x9b05_688c_2b3e_6c1f ∷ bit_xor 0x1f83_d9ab_fb41_bd6b x ∷ bit_xor 0x5be0_cd19_137e_2179 y ∷ []
     ≡ initial 8 (params d p)
 unfolding initial params iv le
-initial_by p d x y e f = rw (e, f)
+initial_by p d e x y g h i = rw (g, h, i)
 
 -- the words as bytes
 bytes_front : (h : List ℕ) (n : ℕ) → take (8 * n) (numbers h) ≡ numbers (take n h)
@@ -141,21 +147,19 @@ initial_length p = refl
 hashed_from : (p s h₀ h : List ℕ) → h₀ ≡ initial 8 p → h ≡ hashed h₀ s → h ≡ hashed (initial 8 p) s
 hashed_from p s h₀ h e f = f ∙ ap (λ (l : List ℕ). hashed l s) e
 
-pub eight : (p s h₀ h : List ℕ) → h₀ ≡ initial 8 p → h ≡ hashed h₀ s → length h ≡ 8
-eight p s h₀ h e f = ap length (hashed_from p s h₀ h e f) ∙ hashed_length (initial 8 p) s ∙ initial_length p
+eight : (p s : List ℕ) → length (hashed (initial 8 p) s) ≡ 8
+eight p s = hashed_length (initial 8 p) s ∙ initial_length p
 
 -- a CKB hash has 32 bytes
 pub ckb_length : (s : List ℕ) → length (ckb_hash s) ≡ 32
 unfolding ckb_hash blake2b chain params
 ckb_length s =
     let h = hashed (initial 8 (params 32 ckb_personal)) s in
-    length-take 32 (numbers h) ∙ omega (arith, each_length (le_bytes 8) 8 (le_bytes_length 8) h, eight (params 32 ckb_personal) s _ h refl refl)
+    length-take 32 (numbers h) ∙ omega (arith, each_length (le_bytes 8) 8 (le_bytes_length 8) h, eight (params 32 ckb_personal) s)
 
-pub chain_by : (p s h₀ h r : List ℕ) → h₀ ≡ initial 8 p → h ≡ hashed h₀ s → r ≡ numbers (take 8 h) → r ≡ chain p s
+pub chain_by : (p s h₀ h r : List ℕ) → h₀ ≡ initial 8 p → h ≡ hashed h₀ s → r ≡ numbers h → r ≡ chain p s
 unfolding chain
-chain_by p s h₀ h r e f g =
-    let n = eight p s h₀ h e f in
-    g ∙ ap numbers (take_all 8 h (omega arith) ∙ hashed_from p s h₀ h e f)
+chain_by p s h₀ h r e f g = g ∙ ap numbers (hashed_from p s h₀ h e f)
 
 pub ckb_by : (p s h₀ h r : List ℕ) → p ≡ ckb_personal → h₀ ≡ initial 8 (params 32 p) → h ≡ hashed h₀ s → r ≡ numbers (take 4 h) → r ≡ ckb_hash s
 unfolding ckb_hash blake2b chain params

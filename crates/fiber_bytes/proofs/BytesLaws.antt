@@ -1,17 +1,24 @@
 -- Laws of `specs/Bytes.antt`: numbers in bytes by halves, and runs of stores.
 -- Assumes nothing.
-use mathlib.Core.Path.{◌≡◌, refl, sym, ap, ap₂, ◌∙◌}
+use mathlib.Core.Path.{◌≡◌, refl, sym, ap, ◌∙◌}
 use mathlib.Core.List.{List, [], ◌∷◌, ◌++◌, append-nil, append_assoc, flat_map}
 use mathlib.Core.Bool.{Bool, true, false}
 use mathlib.Core.Logic.{◌⊎◌, inl, inr, ⊎_elim}
 use Prim.Native.Nat.{ℕ, zero, suc, min, ◌+◌, ◌-◌, ◌*◌, ◌/◌, ◌%◌, ◌^◌, ◌≤◌, ◌<◌}
-use native.Mathlib.Nat.{add-zero, add-suc, suc-add, zero-add, mul_assoc, mul_comm, mul-zero, mul-suc, pow-zero, pow-suc, div-one, div-div-eq-div-mul, pow-le-pow_right}
+use native.Mathlib.Nat.{add-zero, add-suc, suc-add, zero-add, mul_assoc, mul_comm, mul-zero, mul-suc, pow-zero, pow-suc, div-div-eq-div-mul, pow-le-pow_right}
 use native.Mathlib.Numerals.{add-one}
 use native.Mathlib.Omega.{arith}
 use lib.Dec.{leb}
 use borrow.Author.Tests.{leb-true, leb-false}
 use lib.ListN.{length, get_or, set, take, drop, replicate, drop_of_length-le, length-append, length-take, length-drop, take-append-drop}
 use lib.Seq.{sets, length-sets, sets-eq, length-take-le, drop-cons, drop-drop, take-add, take-take, take_all, take_at, set_out}
+use lib.Bits.{bit_or}
+use Rattle.std.specs.List.{fold}
+use Rattle.std.specs.Int.{w64, from_le_bytes, to_le_bytes}
+use Rattle.std.proofs.Common.{reverse}
+use Rattle.std.proofs.lemmas.Nat.{or_shifted}
+use Rattle.std.proofs.lemmas.List.{reverse-append}
+use Rattle.std.proofs.lemmas.List.Sums.{fold-append}
 use Rattle.fiber_bytes.specs.Bytes.{part, le, le_bytes, numbers}
 
 pub either : (a b : ℕ) → (a ≤ b) ⊎ (b < a)
@@ -36,6 +43,7 @@ pub part_none : (s : List ℕ) (at n : ℕ) → length s ≤ at → part s at n 
 part_none s at zero h = refl
 part_none s at (suc n) h = rw (drop_of_length-le s h)
 
+-- all that is left, where that is no more than n bytes
 pub part_rest : (s : List ℕ) (at n : ℕ) → length s - at ≤ n → take (length s - at) (drop at s) ≡ part s at n
 part_rest s at n h =
     let e = length-drop at s in
@@ -75,10 +83,6 @@ le_add s at m n h =
     ∙ le_append (part s at m) (part s (at + m) n)
     ∙ ap (λ (k : ℕ). le (part s at m) + 256 ^ k * le (part s (at + m) n)) (part_length s at m h)
 
-pub le_one : (s : List ℕ) (at : ℕ) → at < length s → le (part s at 1) ≡ get_or s at 0
-unfolding le
-le_one s at h = ap le (part_one s at h) ∙ omega arith
-
 pub le_none : (s : List ℕ) (at n : ℕ) → length s ≤ at → 0 ≡ le (part s at n)
 unfolding le
 le_none s at n h = rw (part_none s at n h)
@@ -89,16 +93,44 @@ unfolding le
 le_zeros zero = refl
 le_zeros (suc n) = omega (arith, le_zeros n)
 
--- a byte put below a number
-pub grow : (x b n : ℕ) → x < 256 ^ n → b < 256 → 256 * x + b < 256 ^ (n + 1)
-grow x b n h g = rw add-one (omega (arith, pow-suc 256 n))
-
-pub byte_more : (s : List ℕ) (i x b : ℕ) → i < length s → x ≡ le (drop (i + 1) s) → b ≡ get_or s i 0 → 256 * x + b ≡ le (drop i s)
+-- the number of the bytes from i on, by the byte at i
+le_from : (s : List ℕ) (i : ℕ) → le (drop i s) ≡ get_or s i 0 + 256 * le (drop (suc i) s)
 unfolding le
-byte_more s i x b h e f = rw (drop-cons s i 0 h) (omega (arith, e, f, ap (λ (k : ℕ). le (drop k s)) (add-one i)))
+le_from [] zero = refl
+le_from [] (suc i) = refl
+le_from (x ∷ xs) zero = refl
+le_from (x ∷ xs) (suc i) = le_from xs i
 
-pub fits : (x n : ℕ) → x < 256 ^ n → n ≤ 7 → x < 2 ^ 56
-fits x n h l = omega (arith, pow-le-pow_right {n = 256} (omega arith) l)
+-- `u64::from_le_bytes`
+pub le_eight : (s : List ℕ) → length s ≡ 8 → from_le_bytes w64 s ≡ le s
+unfolding le
+le_eight s n =
+    let o : le (drop 8 s) ≡ 0 = rw (drop_of_length-le s {i = 8} (omega arith)) refl in
+    let e : get_or s 0 0 + get_or s 1 0 * 256 + get_or s 2 0 * 256 ^ 2 + get_or s 3 0 * 256 ^ 3
+    + get_or s 4 0 * 256 ^ 4 + get_or s 5 0 * 256 ^ 5 + get_or s 6 0 * 256 ^ 6 + get_or s 7 0 * 256 ^ 7 ≡ le s =
+    omega (arith, o, le_from s 0, le_from s 1, le_from s 2, le_from s 3, le_from s 4, le_from s 5, le_from s 6, le_from s 7) in
+    e
+
+le_below : (s : List ℕ) → ((i : ℕ) → get_or s i 0 < 2 ^ 8) → le s < 256 ^ length s
+unfolding le
+le_below [] h = omega (arith, pow-zero 256)
+le_below (x ∷ xs) h = omega (arith, h 0, le_below xs (λ i. h (suc i)), pow-suc 256 (length xs))
+
+-- from the last byte down, each put below the number so far
+pub le_fold : (s : List ℕ) → length s < 8 → ((i : ℕ) → get_or s i 0 < 2 ^ 8) → fold (λ x b. bit_or (x * 2 ^ 8 % 2 ^ 64) b) 0 (reverse s) ≡ le s
+unfolding le
+le_fold [] n h = refl
+le_fold (x ∷ xs) n h =
+    let f : ℕ → ℕ → ℕ = λ x b. bit_or (x * 2 ^ 8 % 2 ^ 64) b in
+    let k : length xs ≤ 7 = omega arith in
+    let l : le xs < 2 ^ 56 = omega (arith, le_below xs (λ i. h (suc i)), pow-le-pow_right {n = 256} (omega arith) k) in
+    let m : le xs * 2 ^ 8 % 2 ^ 64 ≡ le xs * 2 ^ 8 = omega arith in
+    ap (fold f 0) (reverse-append (x ∷ []) xs)
+    ∙ fold-append f 0 (reverse xs) (x ∷ [])
+    ∙ ap (λ y. f y x) (le_fold xs (omega arith) (λ i. h (suc i)))
+    ∙ ap (λ y. bit_or y x) m
+    ∙ or_shifted (le xs) 8 x (h 0)
+    ∙ omega arith
 
 -- ---- runs of stores
 
@@ -134,31 +166,12 @@ unfolding le_bytes
 le_bytes_length zero x = refl
 le_bytes_length (suc n) x = ap suc (le_bytes_length n (x / 256))
 
--- the lowest m + n bytes, by the first m and the others
-pub le_bytes_add : (m n x : ℕ) → le_bytes (m + n) x ≡ le_bytes m x ++ le_bytes n (x / 256 ^ m)
+-- `x.to_le_bytes()`, where y is x in other words
+pub le_bytes_eight : (x y : ℕ) {l : List ℕ} → l ≡ to_le_bytes w64 y → y ≡ x → l ≡ le_bytes 8 x
 unfolding le_bytes
-le_bytes_add zero n x = ap₂ (λ (k y : ℕ). le_bytes k y) (zero-add n) (sym (ap (λ (d : ℕ). x / d) (pow-zero 256) ∙ div-one x))
-le_bytes_add (suc m) n x =
-    let e : x / 256 / 256 ^ m ≡ x / 256 ^ suc m = div-div-eq-div-mul x 256 (256 ^ m) ∙ ap (λ (d : ℕ). x / d) (mul_comm 256 (256 ^ m) ∙ sym (pow-suc 256 m)) in
-    ap (λ (k : ℕ). le_bytes k x) (suc-add m n)
-    ∙ ap (λ (l : List ℕ). x % 256 ∷ l) (le_bytes_add m n (x / 256) ∙ ap (λ (y : ℕ). le_bytes m (x / 256) ++ le_bytes n y) e)
+le_bytes_eight x y e f = e ∙ ap (to_le_bytes w64) f ∙ simp div-div-eq-div-mul
 
--- the stores of two halves of m bytes, one behind the other, are the stores of the whole
-pub halves : (l l₁ l₂ : List ℕ) (at m x : ℕ) → l₁ ≡ sets l at (le_bytes m x) → l₂ ≡ sets l₁ (at + m) (le_bytes m (x / 256 ^ m))
-    → l₂ ≡ sets l at (le_bytes (m + m) x)
-halves l l₁ l₂ at m x e f =
-    f
-    ∙ ap (λ (k : List ℕ). sets k (at + m) (le_bytes m (x / 256 ^ m))) e
-    ∙ sym
-    (ap (sets l at) (le_bytes_add m m x)
-    ∙ sets_append (le_bytes m x) (le_bytes m (x / 256 ^ m)) l at
-    ∙ ap (λ (k : ℕ). sets (sets l at (le_bytes m x)) (at + k) (le_bytes m (x / 256 ^ m))) (le_bytes_length m x))
-
--- A loop that stores one after the other: what is left to store, from here, gives what the whole gives.
-pub put_more : (l src : List ℕ) (at i : ℕ) → i < length src → sets (set l (at + i) (get_or src i 0)) (at + (i + 1)) (drop (i + 1) src) ≡ sets l (at + i) (drop i src)
-put_more l src at i h = rw (add-one, add-suc, drop-cons src i 0 h)
-
-pub put_end : (l src : List ℕ) (at i : ℕ) → i ≡ min (length src) (length l - at) → l ≡ sets l (at + i) (drop i src)
+put_end : (l src : List ℕ) (at i : ℕ) → i ≡ min (length src) (length l - at) → l ≡ sets l (at + i) (drop i src)
 put_end l src at i e = ⊎_elim whole (λ h. sym (sets_out (drop i src) l (at + i) (omega arith))) (either (length src) (length l - at))
   where
     whole : length src ≤ length l - at → l ≡ sets l (at + i) (drop i src)
@@ -166,22 +179,39 @@ put_end l src at i e = ⊎_elim whole (λ h. sym (sets_out (drop i src) l (at + 
         let g : length src ≤ i = omega arith in
         rw (drop_of_length-le src g)
 
+-- all of vs, stored at once
+pub stored_all : (l vs : List ℕ) (at : ℕ) {ys : List ℕ} {k : ℕ} → ys ≡ vs → k ≡ length vs → at + k ≤ length l → take at l ++ (ys ++ drop k (drop at l)) ≡ sets l at vs
+stored_all l vs at {ys} {k} d e h =
+    rw (d, drop-drop, e) (sym (append_assoc (take at l) vs (drop (at + length vs) l)) ∙ sym (sets-eq vs l at (omega arith)))
+
+-- as many of src as have room
+pub stored : (l src : List ℕ) (at : ℕ) {ys : List ℕ} {a n k : ℕ} → ys ≡ take n src → a ≡ min at (length l) → n ≡ min (length src) (length l - a) → k ≡ n
+    → take a l ++ (ys ++ drop k (drop a l)) ≡ sets l at src
+stored l src at {ys} {a} {n} {k} d e f g = ⊎_elim past within (either (length l) at)
+  where
+    past : length l ≤ at → take a l ++ (ys ++ drop k (drop a l)) ≡ sets l at src
+    past h =
+        let m : n ≡ 0 = omega arith in
+        let i : k ≡ 0 = omega arith in
+        rw (d, m, i) (take-append-drop a l ∙ sym (sets_out src l at h))
+
+    within : at < length l → take a l ++ (ys ++ drop k (drop a l)) ≡ sets l at src
+    within h =
+        let i : a ≡ at = omega arith in
+        let m : length (take n src) ≡ n = length-take-le n src (omega arith) in
+        let w = sets l at (take n src) in
+        let o : w ≡ sets w (at + n) (drop n src) = put_end w src at n (omega (arith, length-sets l at (take n src))) in
+        rw i (
+        stored_all l (take n src) at d (omega arith) (omega arith)
+        ∙ o
+        ∙ ap (λ j. sets w (at + j) (drop n src)) (sym m)
+        ∙ sym (sets_append (take n src) (drop n src) l at)
+        ∙ ap (sets l at) (take-append-drop n src)
+        )
+
 -- what is left of m at i, one step on
 pub one_less : (m i : ℕ) → i < m → m - i ≡ suc (m - (i + 1))
 one_less m i h = omega arith
-
-pub put_byte : (l : List ℕ) (at i m x : ℕ) → i < m → sets (set l (at + i) (x % 256)) (at + (i + 1)) (le_bytes (m - (i + 1)) (x / 256)) ≡ sets l (at + i) (le_bytes (m - i) x)
-unfolding le_bytes
-put_byte l at i m x h = rw (one_less m i h, add-one, add-suc)
-
-pub put_byte_end : (l : List ℕ) (at i m x : ℕ) → i ≡ min m (length l - at) → l ≡ sets l (at + i) (le_bytes (m - i) x)
-unfolding le_bytes
-put_byte_end l at i m x e = ⊎_elim whole (λ h. sym (sets_out (le_bytes (m - i) x) l (at + i) (omega arith))) (either m (length l - at))
-  where
-    whole : m ≤ length l - at → l ≡ sets l (at + i) (le_bytes (m - i) x)
-    whole h =
-        let g : m - i ≡ 0 = omega arith in
-        rw g
 
 -- ---- numbers one behind the other, each written by f as k bytes
 

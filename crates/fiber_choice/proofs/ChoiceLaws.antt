@@ -4,9 +4,13 @@ use Prim.Native.Nat.{ℕ}
 use mathlib.Core.Path.{◌≡◌}
 use mathlib.Core.Bool.{Bool, true, false}
 use mathlib.Core.List.{List}
+use Rattle.std.specs.Prelude.{Result, Ok, Err}
+use Rattle.fiber_refusal.specs.declared.Refusal.{Refusal}
+use Rattle.fiber_refusal.specs.declared.Refusal.TheVariants.{TlcCut, UnlockCut, LengthZero, ArgsShort, NoDelay, TooManyTlcs, OutputShort, NotWell}
+use Rattle.fiber_choice.specs.declared.kinds.NoChoice.{NoChoice}
+use Rattle.fiber_choice.specs.declared.kinds.NoChoice.TheVariants as NoChoiceCase
+use Rattle.fiber_choice.specs.Answered.{Answer, decided, waiting, refused, Ready, begins, stops_waiting, stops}
 use Rattle.fiber_since.specs.declared.epoch.Epoch.{Epoch}
-use Rattle.fiber_since.specs.declared.epoch.Scaled.TheVariants as ScaledCase
-use Rattle.fiber_choice.specs.declared.kinds.ChoiceAnswer.TheVariants as AnswerCase
 use Rattle.fiber_choice.specs.Request.{Request, valid_request, delay_of}
 use Rattle.fiber_types.specs.Records.{Gives}
 use Rattle.fiber_choice.specs.Settlements.{later, first}
@@ -14,17 +18,17 @@ use Rattle.fiber_choice.specs.Choice.{after_delay, choice_of}
 
 module _ (q : Request) (is_later : Bool) (w out : List ℕ) where
   -- row 14
-  pub choice_invalid : valid_request q ≡ false → Gives (choice_of q is_later w out) (AnswerCase.Refused 14 0) out
+  pub choice_invalid : valid_request q ≡ false → Gives (choice_of q is_later w out) (refused NotWell) out
   unfolding choice_of
   choice_invalid e = (rw e, rw e)
 
   module _ (e : valid_request q ≡ true) where
     -- row 10 or 11
-    pub choice_refused : (k p : ℕ) → delay_of q.args ≡ ScaledCase.Refused k p → Gives (choice_of q is_later w out) (AnswerCase.Refused k p) out
+    pub choice_refused : (r : Refusal) → delay_of q.args ≡ Err r → Gives (choice_of q is_later w out) (refused r) out
     unfolding choice_of after_delay
-    choice_refused k p f = (rw (e, f), rw (e, f))
+    choice_refused r f = (rw (e, f), rw (e, f))
 
-    module _ (full : Epoch) (f : delay_of q.args ≡ ScaledCase.Epoch full) where
+    module _ (full : Epoch) (f : delay_of q.args ≡ Ok full) where
       -- a later settlement
       pub choice_later : is_later ≡ true → later q w out ≡ choice_of q is_later w out
       unfolding choice_of after_delay

@@ -1,25 +1,26 @@
 -- Laws of `specs/Entries.antt`: equal bytes, and one family of laws for every walk over a list of entries, of any size.
 -- Assumes nothing.
 use Prim.Native.Nat.{ℕ, zero, suc, ◌+◌, ◌-◌, ◌*◌, ◌/◌, ◌%◌, ◌≤◌, ◌<◌}
-use native.Mathlib.Nat.{zero-mul, suc-mul, add-zero, mul-le-mul_right, zero-div, div-mul-le_self, div-le_self, add-mul-div_right}
+use native.Mathlib.Nat.{div-eq_of_lt, zero-mul, suc-mul, add-zero, mul-le-mul_right, zero-div, div-mul-le_self, div-le_self, add-mul-div_right}
 use native.Mathlib.Numerals.{add-one}
 use native.Mathlib.Omega.{arith}
 use mathlib.Core.Path.{◌≡◌, refl, sym, ap, ◌∙◌}
 use mathlib.Core.Bool.{Bool, true, false, cond, ◌&&◌, and-true, and-false, and-eq-true_iff, false≢true}
 use mathlib.Core.List.{List, [], ◌∷◌, ◌++◌}
 use lib.Dec.{eqb}
-use lib.ListN.{length, get_or, take, drop, drop_of_length-le, length-append}
+use lib.ListN.{length, get_or, take, drop, drop_of_length-le, length-append, length-drop, length-take}
 use lib.Seq.{drop-cons, drop-drop, drop-nil, take_at, drop_at, get_or-take, get_or-drop}
 use borrow.Author.Tests.{eq-eqb, ne_eqb, eqb-true, le-leb, lt-leb}
+use Rattle.std.specs.Prelude.{Option, Some, None}
 use Rattle.fiber_bytes.specs.Bytes.{part}
+use Rattle.fiber_bytes.proofs.BytesLaws.{part_length}
 use Rattle.fiber_types.specs.declared.tlc.Amount.{Amount}
 use Rattle.fiber_witness.specs.Witness.{chunks}
+use Rattle.std.proofs.lemmas.List.{take-append-drop}
 use Rattle.fiber_bytes.proofs.CaseLaws.{by_each}
-use Rattle.fiber_choice.specs.declared.kinds.Found.{Found}
-use Rattle.fiber_choice.specs.declared.kinds.Found.TheVariants as FoundCase
 use Rattle.fiber_choice.specs.Entries.{same, same_lists, entries, all, find_first, settlement_len, valid_settlement, tracked_len, tracked_record, tracked_records, valid_tracked}
 use Rattle.fiber_choice.specs.Request.{SettlementData, valid_data}
-use Rattle.fiber_witness.proofs.WitnessLaws.{records_length, records_none, records_more}
+use Rattle.fiber_witness.proofs.WitnessLaws.{Even, even_records, records_length, records_none, records_more}
 
 -- ---- the records of a tracked list
 
@@ -50,7 +51,6 @@ unlike one test f g h (x ∷ a) (y ∷ b) ne = rw (h x y a b, ← unlike one tes
 
 -- lists of different lengths are not the same
 pub same_short : (a b : List ℕ) → (length a ≡ length b → ⊥) → false ≡ same a b
-unfolding same
 same_short = unlike eqb same (λ y b. refl) (λ x a. refl) (λ x y a b. refl)
 
 -- of lists too
@@ -71,7 +71,6 @@ module _ (a b : List ℕ) (i : ℕ) (e : same (drop i a) (drop i b) ≡ same a b
   module _ (f : i < length a) (g : i < length b) where
     -- the rests, by their first bytes
     same_cons : (eqb (get_or a i 0) (get_or b i 0) && same (drop (i + 1) a) (drop (i + 1) b)) ≡ same a b
-    unfolding same
     same_cons = rw add-one (rw (drop-cons a i 0 f, drop-cons b i 0 g) at e)
 
     -- two bytes that differ
@@ -84,7 +83,6 @@ module _ (a b : List ℕ) (i : ℕ) (e : same (drop i a) (drop i b) ≡ same a b
 
   -- at the end of both
   pub same_end : length a ≤ i → length b ≤ i → true ≡ same a b
-  unfolding same
   same_end f g = rw (drop_of_length-le a f, drop_of_length-le b g) at e
 
 -- ---- entries
@@ -110,6 +108,11 @@ module _ (size : ℕ) (s : List ℕ) where
   unfolding entries
   entries_length = records_length size (length s / size) s
 
+  -- of as many bytes each
+  pub entries_even : Even size (entries size s)
+  unfolding entries
+  entries_even = even_records size (length s / size) s (div-mul-le_self (length s) size)
+
   module _ (i : ℕ) (h : i < length s / size) where
     -- the entry at a place
     pub entry_at : get_or (entries size s) i [] ≡ part s (i * size) size
@@ -123,6 +126,36 @@ module _ (size : ℕ) (s : List ℕ) where
     -- it is the first of those from its place on
     pub entries_cons : drop i (entries size s) ≡ part s (i * size) size ∷ drop (i + 1) (entries size s)
     entries_cons = rw (drop-cons (entries size s) i [] (omega (arith, entries_length)), entry_at, add-one)
+
+-- where some are left from place j on, the first of them is whole, and the others are left behind it
+pub record EntryLeft (size : ℕ) (s : List ℕ) (j : ℕ) (t : List ℕ) (ts : List (List ℕ)) : Type 0 where
+  pub below : j < length (entries size s)
+  pub at : t ≡ get_or (entries size s) j []
+  pub whole : length t ≡ size
+  pub rest : ts ≡ drop (j + 1) (entries size s)
+
+pub entry_left : (size : ℕ) (s : List ℕ) (j : ℕ) (es : List (List ℕ)) (t : List ℕ) (ts : List (List ℕ)) → es ≡ drop j (entries size s) → es ≡ t ∷ ts → EntryLeft size s j t ts
+entry_left size s j es t ts e f = record {
+  below = below;
+  at = head g ∙ sym (entry_at size s j few);
+  whole = ap length (head g) ∙ part_length s (j * size) size (entry_room size s j few);
+  rest = tail g;
+}
+  where
+    below : j < length (entries size s)
+    below = omega (arith, ap length (sym f ∙ e), length-drop j (entries size s))
+
+    few : j < length s / size
+    few = omega (arith, below, entries_length size s)
+
+    g : t ∷ ts ≡ part s (j * size) size ∷ drop (j + 1) (entries size s)
+    g = sym f ∙ e ∙ entries_cons size s j few
+
+    head : {x y : List ℕ} {a b : List (List ℕ)} → x ∷ a ≡ y ∷ b → x ≡ y
+    head z = cc
+
+    tail : {x y : List ℕ} {a b : List (List ℕ)} → x ∷ a ≡ y ∷ b → a ≡ b
+    tail z = cc
 
 -- no bytes hold no entry
 pub entries_none : (size : ℕ) → entries size [] ≡ []
@@ -138,6 +171,16 @@ entries_append size e s p n =
     ap (λ (m : ℕ). chunks size m (e ++ s)) q
     ∙ records_more size (length s / size) (e ++ s)
     ∙ rw (take_at e s size n, drop_at e s size n)
+
+-- a list with fewer bytes than an entry has none, and another is its first entry and those behind it
+pub entries_few : (size : ℕ) (s : List ℕ) → length s < size → entries size s ≡ []
+unfolding entries chunks
+entries_few size s h = ap (λ (m : ℕ). chunks size m s) (div-eq_of_lt h) ∙ records_none size s
+
+pub entries_split : (size : ℕ) (s : List ℕ) → 0 < size → size ≤ length s → entries size s ≡ take size s ∷ entries size (drop size s)
+entries_split size s p h =
+    let n : length (take size s) ≡ size = length-take size s ∙ omega arith in
+    ap (entries size) (sym (take-append-drop size s)) ∙ entries_append size (take size s) (drop size s) p n
 
 -- The loop over the entries of s, at entry i, which begins in place at: what f says of the rest, from here, is what the whole comes to.
 pub record Along {A : Type 0} (size : ℕ) (s : List ℕ) (f : List (List ℕ) → A) (whole : A) (at i : ℕ) : Type 0 where
@@ -189,57 +232,34 @@ module _ {A : Type 0} (size : ℕ) (s : List ℕ) (f : List (List ℕ) → A) (w
 module _ (good : List ℕ → Bool) (size : ℕ) (s : List ℕ) (whole : Bool) (at i : ℕ) (c : Along size s (all good) whole at i) where
   -- all were
   pub checking_end : length s / size ≤ i → true ≡ whole
-  unfolding all
   checking_end h = along_end size s (all good) whole at i c h
 
   module _ (h : i < length s / size) where
     -- one that is not
     pub checking_bad : good (part s at size) ≡ false → false ≡ whole
-    unfolding all
     checking_bad e = along_stop size s (all good) whole at i c h false (λ es. rw e)
 
     -- one that is
     pub checking_good : good (part s at size) ≡ true → Along size s (all good) whole (at + size) (i + 1)
-    unfolding all
     checking_good e = along_next size s (all good) whole at i c h (all good) (λ es. rw e)
 
 -- ---- the first that passes a test
 
-module _ (test : List ℕ → Bool) (size : ℕ) (s : List ℕ) (whole : Found) (at i : ℕ) (c : Along size s (find_first test i) whole at i) where
-  -- none did
-  pub finding_end : length s / size ≤ i → FoundCase.None ≡ whole
-  unfolding find_first
-  finding_end h = along_end size s (find_first test i) whole at i c h
-
-  module _ (h : i < length s / size) where
-    -- one that does
-    pub finding_this : test (part s at size) ≡ true → FoundCase.At i ≡ whole
-    unfolding find_first
-    finding_this e = along_stop size s (find_first test i) whole at i c h (FoundCase.At i) (λ es. rw e)
-
-    -- one that does not
-    pub finding_more : test (part s at size) ≡ false → Along size s (find_first test (i + 1)) whole (at + size) (i + 1)
-    unfolding find_first
-    finding_more e = along_next size s (find_first test i) whole at i c h (find_first test (i + 1)) (λ es. rw e)
-
 -- no entry, and one more in front
 module _ (test : List ℕ → Bool) (i : ℕ) where
-  pub find_none : find_first test i [] ≡ FoundCase.None
-  unfolding find_first
+  pub find_none : find_first test i [] ≡ None
   find_none = refl
 
-  pub find_more : (e : List ℕ) (es : List (List ℕ)) → find_first test i (e ∷ es) ≡ cond (test e) (FoundCase.At i) (find_first test (i + 1) es)
-  unfolding find_first
+  pub find_more : (e : List ℕ) (es : List (List ℕ)) → find_first test i (e ∷ es) ≡ cond (test e) (Some i) (find_first test (i + 1) es)
   find_more e es = refl
 
 -- what is found is among n
-abbrev pub FoundBelow : ℕ → Found → Type 0
-FoundBelow n (FoundCase.At i) = i < n
-FoundBelow n FoundCase.None = Unit {0}
+abbrev pub FoundBelow : ℕ → Option ℕ → Type 0
+FoundBelow n (Some i) = i < n
+FoundBelow n None = Unit {0}
 
 -- only an entry of the list is found
 pub found_below : (test : List ℕ → Bool) (es : List (List ℕ)) (i n : ℕ) → i + length es ≤ n → FoundBelow n (find_first test i es)
-unfolding find_first
 found_below test [] i n h = tt
 found_below test (e ∷ es) i n h = by_each (FoundBelow n) (test e) _ _ (omega arith) (found_below test es (i + 1) n (omega arith))
 
@@ -336,7 +356,6 @@ alike one test f g h eq (x ∷ a) (y ∷ b) e =
     rw (eq x y s.0, alike one test f g h eq a b s.1)
 
 same_equal : (a b : List ℕ) → same a b ≡ true → a ≡ b
-unfolding same
 same_equal = alike eqb same (λ y b. refl) (λ x a. refl) (λ x y a b. refl) (λ x y e. eqb-true x y e)
 
 pub lists_equal : (a b : List (List ℕ)) → same_lists a b ≡ true → a ≡ b

@@ -1,51 +1,47 @@
 -- Laws of `specs/inner/Plan.antt`, and of `specs/HandedOut.antt`: the records of a tracked list, and runs of stores.
 -- Assumes nothing.
 use Prim.Native.Nat.{ℕ, zero, suc, ◌+◌, ◌-◌, ◌*◌, ◌/◌, ◌≤◌, ◌<◌}
-use native.Mathlib.Nat.{add-zero, suc-mul, mul-le-mul_right, div-mul-le_self}
+use native.Mathlib.Nat.{add-zero, suc-mul, div-mul-le_self}
 use native.Mathlib.Omega.{arith}
-use mathlib.Core.Path.{◌≡◌, refl, sym, ap, subst, ◌∙◌}
-use mathlib.Core.Bool.{Bool, true, false, cond, ◌||◌}
+use mathlib.Core.Path.{◌≡◌, refl, sym, ap, ◌∙◌}
+use mathlib.Core.Bool.{Bool, true, false, cond}
 use mathlib.Core.List.{List, [], ◌∷◌, ◌++◌, append_assoc, flatten}
 use mathlib.Core.Logic.{◌⊎◌, inl, inr, ⊎_elim}
 use lib.Dec.{eqb}
 use lib.ListN.{length, get_or, take, drop, set, replicate, length-take, length-drop, length-append}
 use lib.Seq.{sets, length-sets, sets-eq, take_all, take_at, drop_at, take-set-le, drop-set-lt, length-take-le, drop-drop, get_or-drop}
-use borrow.Author.Tests.{ne_eqb, le-leb, lt-leb, eqb-true, eqb-false, lt-ltb}
+use borrow.Author.Tests.{ne_eqb, le-leb, lt-leb, lt-ltb}
+use Rattle.std.specs.Prelude.{Option, Ok}
+use Rattle.fiber_refusal.specs.declared.Refusal.TheVariants.{OutputShort}
+use Rattle.fiber_choice.specs.Answered.{Answer, decided, refused}
 use Rattle.fiber_bytes.specs.Bytes.{part}
 use Rattle.fiber_bytes.proofs.BytesLaws.{part_length, sets_append, part_part, part_behind}
 use Rattle.fiber_types.specs.declared.tlc.Amount.{Amount}
-use Rattle.fiber_types.specs.declared.tlc.Tlc.{Tlc}
-use Rattle.fiber_types.specs.declared.tlc.TlcRead.{TlcRead}
-use Rattle.fiber_types.specs.declared.tlc.TlcRead.TheVariants as TlcCase
-use Rattle.fiber_types.specs.declared.answer.Written.TheVariants as WrittenCase
 use Rattle.fiber_types.specs.declared.unlock.Unlock.{Unlock}
-use Rattle.fiber_types.specs.Records.{amount_at, valid_hash_len, tlc_at, read_tlc, witness_len, unlock_bytes, wrote_unlock}
-use Rattle.fiber_types.proofs.RecordsLaws.{tlc_whole, tlc_amount_lem, unlock_written, unlock_bytes_length, unlock_bytes_byte, unlock_bytes_flag, at_least, outcome_room, amount_part, whole_is}
+use Rattle.fiber_since.specs.declared.epoch.Epoch.{Epoch}
+use Rattle.fiber_types.specs.Records.{Outcome, amount_at, witness_len, unlock_bytes, wrote_unlock}
+use Rattle.fiber_types.proofs.RecordsLaws.{unlock_written, unlock_bytes_length, unlock_bytes_byte, unlock_bytes_flag, at_least, outcome_room, amount_part}
 use Rattle.fiber_blake2b.specs.Blake2b.{ckb_hash}
 use Rattle.fiber_blake2b.proofs.Blake2bLaws.{ckb_length}
 use Rattle.fiber_choice.specs.declared.kinds.Side.TheVariants as SideCase
-use Rattle.fiber_choice.specs.declared.kinds.Way.{Way}
 use Rattle.fiber_choice.specs.declared.kinds.Way.TheVariants as WayCase
 use Rattle.fiber_choice.specs.declared.kinds.Key.{Key}
-use Rattle.fiber_choice.specs.declared.kinds.Delay.{Delay}
 use Rattle.fiber_choice.specs.declared.kinds.Choice.{Choice}
 use Rattle.fiber_choice.specs.declared.kinds.Choice.TheVariants as ChoiceCase
 use Rattle.fiber_choice.specs.declared.kinds.Plan.{Plan}
-use Rattle.fiber_witness.specs.Witness.{record_len, chunks, state_bytes, member, unlock_len, places, unless_cut, read_witness}
+use Rattle.fiber_witness.specs.Witness.{record_len, chunks, state_bytes, member, unlock_len, places, unless_cut, read_witness, whole as read_whole, cut_at}
 use Rattle.fiber_witness.specs.Update.{keep, share_left, none, fine, take_unlocks, updated, state_after}
-use Rattle.fiber_witness.specs.inner.Marks.{Marks, no_marks}
+use Rattle.fiber_witness.specs.inner.Marks.{marked, no_marks}
 use Rattle.fiber_witness.specs.inner.Strided.{behind_tlcs, strided, unmarked}
 use Rattle.fiber_choice.specs.Entries.{entries, tracked_len, tracked_records, pair_len, pair_preimage}
-use Rattle.fiber_choice.specs.declared.kinds.ChoiceAnswer.TheVariants as AnswerCase
 use Rattle.fiber_choice.specs.HandedOut.{choice_byte, new_args, unlock_of, takes, choice_amount, record_size, handed_out}
 use Rattle.fiber_choice.specs.inner.Plan.{plan_of, plan_after, plan_unlock, joined, Below, Within}
 use Rattle.fiber_choice.specs.Promises.{PairIn}
 use Rattle.fiber_witness.proofs.WitnessLaws.{Even, even_none, even_more, even_at, flatten_even, state_size, places_nil, places_cons, member_none, cut_none, cut_passed}
-use Rattle.fiber_witness.proofs.UpdateLaws.{marks_none, left_length, share_kept, sets_part, rest_room, unlocks_none, unlocks_more, updated_fine}
-use Rattle.fiber_witness.proofs.StridedLaws.{strided_none, strided_more, unmarked_keep}
-use Rattle.fiber_witness.specs.declared.witness.WitnessRead.TheVariants as ReadCase
+use Rattle.fiber_witness.proofs.UpdateLaws.{marks_none, keep_marked, left_length, sets_part, unlocks_none, unlocks_more, updated_fine}
+use Rattle.fiber_witness.proofs.StridedLaws.{strided_none, strided_more}
 use Rattle.fiber_witness.proofs.StateLaws.{Sound, read_sound, state_left_lem}
-use Rattle.fiber_choice.proofs.EntriesLaws.{tracked_length, tracked_at, entries_length, entry_at, entry_room}
+use Rattle.fiber_choice.proofs.EntriesLaws.{tracked_count, tracked_length, tracked_at, entries_length, entry_at, entry_room}
 
 -- ---- runs of stores
 
@@ -60,7 +56,7 @@ drop_sets [] l i n h = refl
 drop_sets (x ∷ a) l i n h = drop_sets a (set l i x) (suc i) n (omega arith) ∙ drop-set-lt n l i x (omega arith)
 
 -- stores that are stored over, by no fewer, are gone
-pub sets_over : (l a b : List ℕ) (i : ℕ) → i + length b ≤ length l → length a ≤ length b → sets (sets l i a) i b ≡ sets l i b
+sets_over : (l a b : List ℕ) (i : ℕ) → i + length b ≤ length l → length a ≤ length b → sets (sets l i a) i b ≡ sets l i b
 sets_over l a b i h g =
     let r : i + length b ≤ length (sets l i a) = omega (arith, length-sets l i a) in
     let p : i + length a ≤ i + length b = omega arith in
@@ -78,7 +74,7 @@ sets_back l a i n e h =
     ∙ take_at a (drop (i + length a) l) n (sym e)
 
 -- a run of stores from a place on, and another right behind it
-pub sets_next : (o a b : List ℕ) (i j : ℕ) {l₁ l₂ : List ℕ} → l₁ ≡ sets o i a → l₂ ≡ sets l₁ j b → j ≡ i + length a → l₂ ≡ sets o i (a ++ b)
+sets_next : (o a b : List ℕ) (i j : ℕ) {l₁ l₂ : List ℕ} → l₁ ≡ sets o i a → l₂ ≡ sets l₁ j b → j ≡ i + length a → l₂ ≡ sets o i (a ++ b)
 sets_next o a b i j e f g =
     f
     ∙ ap (λ (k : List ℕ). sets k j b) e
@@ -120,11 +116,11 @@ each_tracked r (suc m) s h =
     (each_tracked r m (drop (33 + r) s) (omega (arith, length-drop (33 + r) s, suc-mul m (33 + r))))
 
 -- so many bytes
-pub tlcs_flat : (h : ℕ) (s : List ℕ) → length (flatten (tlcs h s)) ≡ length s / (98 + h) * record_len h
+pub tlcs_flat : (h : ℕ) (s : List ℕ) → length (flatten (tlcs h s)) ≡ length (entries (tracked_len h) s) * record_len h
 unfolding entries
 tlcs_flat h s =
     flatten_even (each_tracked (record_len h) (length s / tracked_len h) s (div-mul-le_self (length s) (tracked_len h)))
-    ∙ ap (λ (k : ℕ). k * record_len h) (tlcs_length h s)
+    ∙ ap (λ (k : ℕ). k * record_len h) (tracked_length (entries (tracked_len h) s))
 
 -- ---- written from the tracked list
 
@@ -145,52 +141,32 @@ strided_tracked r (suc m) s from =
 
 module _ (h : ℕ) (s : List ℕ) where
   -- all of them are whole
-  pub tracked_whole : 33 + length s / (98 + h) * (98 + h) + record_len h ≤ length s + (98 + h)
-  tracked_whole = omega (arith, div-mul-le_self (length s) (98 + h))
+  pub tracked_room : length (entries (tracked_len h) s) * (98 + h) ≤ length s
+  tracked_room = rw tracked_count (div-mul-le_self (length s) (98 + h))
 
-  module _ (marks : List Bool) where
-    -- those that are not marked
-    abbrev pub others : List (List ℕ)
-    others = unmarked h s 33 (98 + h) (length s / (98 + h)) marks
+  -- of such records, those that are not marked
+  pub unmarked_tracked : (stride n : ℕ) (marks : List Bool) → stride ≡ 98 + h → n ≡ length (entries (tracked_len h) s)
+      → unmarked h s 33 stride n marks ≡ keep (marked marks) 0 (tlcs h s)
+  unfolding unmarked entries
+  unmarked_tracked stride n marks d e =
+      let k : stride ≡ tracked_len h = omega arith in
+      let m : n ≡ length s / tracked_len h = e ∙ entries_length (tracked_len h) s in
+      rw (k, m) (ap (keep (marked marks) 0) (strided_tracked (record_len h) (length s / tracked_len h) s 0))
 
-    -- by the list of the marked places
-    others_keep : (settled : List ℕ) → Marks marks settled → others ≡ keep settled 0 (tlcs h s)
-    unfolding entries
-    others_keep settled m =
-        unmarked_keep h s 33 (98 + h) (length s / (98 + h)) marks settled m
-        ∙ ap (keep settled 0) (rw (tracked_size h) (strided_tracked (record_len h) (length s / tracked_len h) s 0))
-
-    -- all but one
-    pub others_but : (skip : ℕ) → Marks marks (skip ∷ []) → others ≡ keep (skip ∷ []) 0 (tlcs h s)
-    others_but skip = others_keep (skip ∷ [])
-
-    -- all
-    pub others_all : marks ≡ no_marks → others ≡ tlcs h s
-    others_all e = others_keep [] (rw e marks_none) ∙ keep_all 0 (tlcs h s)
+-- those that no marks leave are all
+pub unmarked_all : (rs : List (List ℕ)) → keep (marked no_marks) 0 rs ≡ rs
+unmarked_all rs = keep_marked no_marks [] marks_none 0 rs ∙ keep_all 0 rs
 
 -- ---- all but one
 
 module _ (k : ℕ) where
   -- the one that is left out is not among them
-  pub keep_past : (i : ℕ) (rs : List (List ℕ)) → (k < i) ⊎ (i + length rs ≤ k) → keep (k ∷ []) i rs ≡ rs
+  keep_past : (i : ℕ) (rs : List (List ℕ)) → (k < i) ⊎ (i + length rs ≤ k) → keep (k ∷ []) i rs ≡ rs
   unfolding keep member
   keep_past i [] h = refl
   keep_past i (r ∷ rs) h =
       rw (ne_eqb i k (⊎_elim (λ g. omega arith) (λ g. omega arith) h))
       (ap (λ (l : List (List ℕ)). r ∷ l) (keep_past (i + 1) rs (⊎_elim (λ g. inl (omega arith)) (λ g. inr (omega arith)) h)))
-
-  -- it is among them
-  pub keep_but : (i : ℕ) (rs : List (List ℕ)) → i ≤ k → k < i + length rs → suc (length (keep (k ∷ []) i rs)) ≡ length rs
-  unfolding keep member
-  keep_but i [] h g = absurd (omega arith)
-  keep_but i (r ∷ rs) h g = go (eqb i k) refl (λ f. keep_but (i + 1) rs f (omega arith))
-    where
-      go : (b : Bool) → eqb i k ≡ b → (i + 1 ≤ k → suc (length (keep (k ∷ []) (i + 1) rs)) ≡ length rs)
-          → suc (length (cond (b || false) (keep (k ∷ []) (i + 1) rs) (r ∷ keep (k ∷ []) (i + 1) rs))) ≡ suc (length rs)
-      go true e f = ap (λ (l : List (List ℕ)). suc (length l)) (keep_past (i + 1) rs (inl (omega (arith, eqb-true i k e))))
-      go false e f =
-          let n = eqb-false i k e in
-          ap suc (f (omega (arith, n)))
 
 -- no more bytes are kept than there are
 pub keep_small : (s : List ℕ) (i : ℕ) (rs : List (List ℕ)) → length (flatten (keep s i rs)) ≤ length (flatten rs)
@@ -202,155 +178,83 @@ keep_small s i (r ∷ rs) = go (member i s) (keep_small s (i + 1) rs)
     go true h = omega (arith, length-append r (flatten rs))
     go false h = omega (arith, length-append r (flatten rs), length-append r (flatten (keep s (i + 1) rs)))
 
--- ---- the numbers of a plan
-
-module _ (h : ℕ) (s : List ℕ) (place : ℕ) (way : Way) (c : Choice) (b : Below (length (entries (tracked_len h) s)) c) (e : c ≡ ChoiceCase.Tlc place way) where
-  -- the choice's TLC is among the tracked ones
-  pub below_place : place < length s / (98 + h)
-  unfolding Below
-  below_place =
-      let g : place < length (entries (tracked_len h) s) = subst (Below (length (entries (tracked_len h) s))) e b in
-      omega (arith, tracked_length (entries (tracked_len h) s), tlcs_length h s)
-
-  -- and its entry is whole
-  pub below_room : place * (98 + h) + (98 + h) ≤ length s
-  below_room = entry_room (98 + h) s place below_place
-
-module _ (h : ℕ) (s : List ℕ) (i : ℕ) (k : valid_hash_len h ≡ true) (g : i < length s / (98 + h)) (x : TlcRead) (f : x ≡ read_tlc h s (i * (98 + h) + 33)) where
-  -- its record is whole
-  pub place_whole : x ≡ TlcCase.Whole (tlc_at h s (i * (98 + h) + 33))
-  place_whole = f ∙ tlc_whole h s (i * (98 + h) + 33) k (omega (arith, entry_room (98 + h) s i g))
-
-  -- what is read is its amount
-  pub place_amount : (t : Tlc) → x ≡ TlcCase.Whole t → t.amount ≡ amount_at (get_or (tlcs h s) i []) 1
-  place_amount t e =
-      rw (whole_is place_whole t e, tlc_amount_lem h s (i * (98 + h) + 33), tlc_at_lem h s i g) (sym (amount_part s (i * (98 + h) + 33) (record_len h) 1 (omega arith)))
+-- the amount of a tracked TLC is behind the type in its record
+pub tracked_amount : (h : ℕ) (s : List ℕ) (place : ℕ) → place < length (entries (tracked_len h) s)
+    → amount_at s (place * (98 + h) + 33 + 1) ≡ amount_at (get_or (tlcs h s) place []) 1
+tracked_amount h s place g =
+    rw (tlc_at_lem h s place (omega (arith, tracked_count h s)))
+    (sym (amount_part s (place * (98 + h) + 33) (record_len h) 1 (omega arith)))
 
 -- with a flag the first of two holds
-pub flagged : {A : Type 0} {b : Bool} → A ⊎ (b ≡ false) → b ≡ true → A
+flagged : {A : Type 0} {b : Bool} → A ⊎ (b ≡ false) → b ≡ true → A
 flagged (inl a) e = a
 flagged (inr f) e = let z : ◌≡◌ {A = ℕ} 0 1 = cc in absurd (omega arith)
 
 -- ---- the state after the unlock
 
--- all are counted, or all but the one that is left out
-pub keep_count : (k n c : ℕ) (rs : List (List ℕ)) → n ≡ length rs → ((k < n) × (c ≡ n - 1)) ⊎ ((n ≤ k) × (c ≡ n)) → (c ≡ length (keep (k ∷ []) 0 rs)) × (c ≤ n)
-keep_count k n c rs e (inl x) = (omega (arith, x.0, x.1, keep_but k 0 rs (omega arith) (omega (arith, x.0))), omega (arith, x.1))
-keep_count k n c rs e (inr x) = (omega (arith, x.1, ap length (keep_past k 0 rs (inr (omega (arith, x.0))))), omega (arith, x.1))
-
 module _ (rs : List (List ℕ)) (remote local : List ℕ) (p : Plan) where
   -- it is no longer than the state before it
-  pub after_size : length remote ≡ 36 → length local ≡ 36 → (length (plan_after rs remote local p) ≤ 73 + length (flatten rs)) × (73 ≤ length (plan_after rs remote local p))
+  after_size : length remote ≡ 36 → length local ≡ 36 → (length (plan_after rs remote local p) ≤ 73 + length (flatten rs)) × (73 ≤ length (plan_after rs remote local p))
   unfolding plan_after
   after_size e f =
       let z = state_size (keep (p.skip ∷ []) 0 rs) (share_left p.remote remote) (share_left p.local local) (left_length p.remote remote e) (left_length p.local local f) in
       (omega (arith, z, keep_small (p.skip ∷ []) 0 rs), omega (arith, z))
 
-module _ (h : ℕ) (s remote local : List ℕ) (p : Plan) (marks : List Bool) (m : Marks marks (p.skip ∷ [])) where
-  -- what `put_state` is asked for
-  pub after_asks : (c : ℕ) (out : List ℕ) → 73 + length (flatten (tlcs h s)) ≤ length out
-      → ((p.skip < length s / (98 + h)) × (c ≡ length s / (98 + h) - 1)) ⊎ ((length s / (98 + h) ≤ p.skip) × (c ≡ length s / (98 + h)))
-      → (c ≡ length (others h s marks)) × (73 + length (flatten (others h s marks)) ≤ length out)
-  after_asks c out room k =
-      rw (others_but h s marks p.skip m)
-      ((keep_count p.skip _ c (tlcs h s) (sym (tlcs_length h s)) k).0, omega (arith, keep_small (p.skip ∷ []) 0 (tlcs h s)))
-
-  -- what it leaves
-  pub after_written : (n : ℕ) (out o : List ℕ)
-      → (n ≡ length (state_bytes (others h s marks) (share_left p.remote remote) (share_left p.local local)))
-      × (o ≡ sets out 0 (state_bytes (others h s marks) (share_left p.remote remote) (share_left p.local local)))
-      → (n ≡ length (plan_after (tlcs h s) remote local p)) × (o ≡ sets out 0 (plan_after (tlcs h s) remote local p))
-  unfolding plan_after
-  after_written n out o w = rw (others_but h s marks p.skip m) at w
-
 -- what was written to the front is read back
-pub read_back : (out S : List ℕ) (n : ℕ) (o : List ℕ) → n ≡ length S → o ≡ sets out 0 S → length S ≤ length out → take (n - 0) (drop 0 o) ≡ S
-read_back out S n o a b r =
-    let e : n - 0 ≡ length S = omega arith in
-    ap (take (n - 0)) b ∙ sets_back out S 0 (n - 0) e (omega arith)
+pub front_back : (out S : List ℕ) → length S ≤ length out → take (length S) (sets out 0 S) ≡ S
+front_back out S r = sets_back out S 0 (length S) refl (omega arith)
 
 -- ---- the unlock
 
-module _ (preimages : List ℕ) (p : Plan) (out out' x : List ℕ) (r : 99 ≤ length out)
-    (w : out' ≡ (wrote_unlock (record { byte = p.byte; flag = p.flag }) (replicate 65 0) x out).bytes) where
+module _ (preimages : List ℕ) (p : Plan) (out : List ℕ) (r : 99 ≤ length out) where
   -- without a preimage
-  pub unlock_plain : p.flag ≡ false → x ≡ [] → out' ≡ sets out 0 (plan_unlock (entries pair_len preimages) p)
+  pub unlock_plain : p.flag ≡ false
+      → sets out 0 (plan_unlock (entries pair_len preimages) p) ≡ (wrote_unlock (record { byte = p.byte; flag = p.flag }) (replicate 65 0) [] out).bytes
   unfolding plan_unlock
-  unlock_plain e d =
+  unlock_plain e =
       let n : 67 ≡ witness_len p.flag = rw e in
-      let l : length x ≡ 67 - 67 = rw d in
-      w
-      ∙ sym (unlock_written (record { byte = p.byte; flag = p.flag }) (replicate 65 0) x out 67 n refl l (omega arith) _ refl).1
-      ∙ ap (λ (y : List ℕ). sets out 0 (unlock_bytes (record { byte = p.byte; flag = p.flag }) (replicate 65 0) y)) (rw (e, d))
+      rw (ap (λ (b : Bool). cond b (pair_preimage (get_or (entries pair_len preimages) p.pair_place [])) []) e)
+      (unlock_written (record { byte = p.byte; flag = p.flag }) (replicate 65 0) [] out 67 n refl refl (omega arith) _ refl).1
 
   -- with the second half of its pair
-  pub unlock_paired : p.flag ≡ true → 64 * p.pair_place + 64 ≤ length preimages → x ≡ part preimages (64 * p.pair_place + 32) 32
-      → out' ≡ sets out 0 (plan_unlock (entries pair_len preimages) p)
+  pub unlock_paired : p.flag ≡ true → 64 * p.pair_place + 64 ≤ length preimages
+      → sets out 0 (plan_unlock (entries pair_len preimages) p)
+      ≡ (wrote_unlock (record { byte = p.byte; flag = p.flag }) (replicate 65 0) (part preimages (64 * p.pair_place + 32) 32) out).bytes
   unfolding plan_unlock
-  unlock_paired e g d =
+  unlock_paired e g =
       let n : 99 ≡ witness_len p.flag = rw e in
-      let l : length x ≡ 99 - 67 = ap length d ∙ part_length preimages (64 * p.pair_place + 32) 32 (omega arith) in
-      let f : p.pair_place < length preimages / 64 = omega arith in
       let k : 64 * p.pair_place + 32 ≡ p.pair_place * 64 + 32 = omega arith in
-      let y : x ≡ part (get_or (entries pair_len preimages) p.pair_place []) 32 32 =
-      d
-      ∙ ap (λ (j : ℕ). part preimages j 32) k
+      let y : part preimages (64 * p.pair_place + 32) 32 ≡ pair_preimage (get_or (entries pair_len preimages) p.pair_place []) =
+      ap (λ (j : ℕ). part preimages j 32) k
       ∙ sym (part_part preimages (p.pair_place * 64) 64 32 32 (omega arith))
-      ∙ ap (λ (t : List ℕ). part t 32 32) (sym (entry_at 64 preimages p.pair_place f)) in
-      w
-      ∙ sym (unlock_written (record { byte = p.byte; flag = p.flag }) (replicate 65 0) x out 99 n refl l r _ refl).1
-      ∙ ap (λ (z : List ℕ). sets out 0 (unlock_bytes (record { byte = p.byte; flag = p.flag }) (replicate 65 0) z)) (rw e y)
+      ∙ ap (λ (t : List ℕ). part t 32 32) (sym (entry_at 64 preimages p.pair_place (omega arith))) in
+      rw (ap (λ (b : Bool). cond b (pair_preimage (get_or (entries pair_len preimages) p.pair_place [])) []) e, ← y)
+      (unlock_written (record { byte = p.byte; flag = p.flag }) (replicate 65 0) (part preimages (64 * p.pair_place + 32) 32) out 99 n refl
+      (part_length preimages (64 * p.pair_place + 32) 32 (omega arith)) r _ refl).1
 
 -- ---- the new args
 
 -- the four writes of the new args are one
-pub args_puts : (args hash : List ℕ) (at : ℕ) (o o₁ o₂ o₃ A B C : List ℕ) → 36 ≤ length args → length hash ≡ 32
-    → A ≡ take 36 args → B ≡ take 20 hash → C ≡ part args 57 (length args)
-    → o₁ ≡ sets o at A
-    → o₂ ≡ sets o₁ (at + 36) B
-    → o₃ ≡ sets (set o₂ (at + 56) 1) (at + 57) C
+pub args_puts : (args hash o : List ℕ) {o₁ o₂ o₃ A B C : List ℕ} (at i j k : ℕ) → 36 ≤ length args → length hash ≡ 32
+    → o₁ ≡ sets o at A → o₂ ≡ sets o₁ i B → o₃ ≡ sets (set o₂ j 1) k C
+    → i ≡ at + 36 → j ≡ at + 56 → k ≡ at + 57
+    → A ≡ part args 0 36 → B ≡ part hash 0 20 → C ≡ part args 57 (length args)
     → o₃ ≡ sets o at (take 36 args ++ take 20 hash ++ (1 ∷ []) ++ drop 57 args)
-args_puts args hash at o o₁ o₂ o₃ A B C h g e_a e_b e_c e₁ e₂ e₃ =
+args_puts args hash o {A = A} {B = B} {C = C} at i j k h g e₁ e₂ e₃ e_i e_j e_k e_a e_b e_c =
     let O : List ℕ = 1 ∷ [] in
     let a : length A ≡ 36 = omega (arith, ap length e_a, length-take 36 args) in
     let b : length B ≡ 20 = omega (arith, ap length e_b, length-take 20 hash) in
-    let n₁ : at + 36 ≡ at + length A = omega arith in
-    let n₂ : at + 56 ≡ at + length (A ++ B) = omega (arith, length-append A B) in
-    let n₃ : at + 57 ≡ at + length (A ++ B ++ O) = omega (arith, length-append A B, length-append (A ++ B) O) in
-    let p₂ = sets_next o A B at (at + 36) e₁ e₂ n₁ in
-    let p₃ : set o₂ (at + 56) 1 ≡ sets o at (A ++ B ++ O) = sets_next o (A ++ B) O at (at + 56) p₂ refl n₂ in
+    let n₁ : i ≡ at + length A = omega arith in
+    let n₂ : j ≡ at + length (A ++ B) = omega (arith, length-append A B) in
+    let n₃ : k ≡ at + length (A ++ B ++ O) = omega (arith, length-append A B, length-append (A ++ B) O) in
     let l : length (drop 57 args) ≤ length args = omega (arith, length-drop 57 args) in
-    sets_next o (A ++ B ++ O) C at (at + 57) p₃ e₃ n₃
-    ∙ ap (λ (r : List ℕ). sets o at (A ++ B ++ O ++ r)) (e_c ∙ take_all (length args) (drop 57 args) l)
-    ∙ ap (λ (r : List ℕ). sets o at (r ++ B ++ O ++ drop 57 args)) e_a
-    ∙ ap (λ (r : List ℕ). sets o at (take 36 args ++ r ++ O ++ drop 57 args)) e_b
-
--- ---- hashes
-
--- what is equal to a CKB hash has 32 bytes
-pub hash_length : (s r : List ℕ) → r ≡ ckb_hash s → length r ≡ 32
-hash_length s r e = ap length e ∙ ckb_length s
+    let c : C ≡ drop 57 args = e_c ∙ take_all (length args) (drop 57 args) l in
+    sets_next o (A ++ B ++ O) C at k (sets_next o (A ++ B) O at j (sets_next o A B at i e₁ e₂ n₁) refl n₂) e₃ n₃ ∙ rw (e_a, e_b, c)
 
 -- an unlock has at most 99
 pub unlock_most : (b : Bool) → witness_len b ≤ 99
 unlock_most true = omega arith
 unlock_most false = omega arith
-
--- the place behind the unlock
-pub unlock_place : (b : Bool) (at : ℕ) → ((b ≡ true) × (at ≡ 99)) ⊎ ((b ≡ false) × (at ≡ 67)) → at ≡ witness_len b
-unlock_place b at (inl x) = rw x.0 x.1
-unlock_place b at (inr x) = rw x.0 x.1
-
--- ---- few tracked TLCs
-
-module _ (h : ℕ) (s : List ℕ) (f : length (entries (tracked_len h) s) ≤ 254) where
-  -- as many as the code counts
-  pub few_tracked : length s / (98 + h) ≤ 254
-  few_tracked = omega (arith, tracked_length (entries (tracked_len h) s), tlcs_length h s)
-
-  -- their records have fewer than 2 ^ 15 bytes
-  pub state_small : h ≤ 32 → length s / (98 + h) * record_len h ≤ 24638
-  state_small g = omega (arith, mul-le-mul_right (record_len h) few_tracked)
 
 -- ---- the three parts, joined
 
@@ -367,7 +271,7 @@ module _ (h : ℕ) (args s preimages remote local : List ℕ) (p : Plan)
   after = plan_after (tlcs h s) remote local p
 
   -- the unlock
-  pub unlock_size_lem : length unlock ≡ witness_len p.flag
+  unlock_size_lem : length unlock ≡ witness_len p.flag
   unfolding plan_unlock
   unlock_size_lem = go p.flag refl
     where
@@ -382,7 +286,7 @@ module _ (h : ℕ) (args s preimages remote local : List ℕ) (p : Plan)
       go false e = unlock_bytes_length (record { byte = p.byte; flag = false }) (replicate 65 0) []
 
   -- the new args
-  pub new_size : (o : List ℕ) → length (new_args args o) ≡ 57 + (length args - 57)
+  new_size : (o : List ℕ) → length (new_args args o) ≡ 57 + (length args - 57)
   unfolding new_args
   new_size o =
       let A : List ℕ = take 36 args in
@@ -412,97 +316,44 @@ module _ (h : ℕ) (args s preimages remote local : List ℕ) (p : Plan)
         new_size after,
       )
 
-  module _ (out : List ℕ) (r : length (joined args (entries (tracked_len h) s) (entries pair_len preimages) remote local p) ≤ length out)
-      (at : ℕ) (w : at ≡ witness_len p.flag) where
-    -- there is room for the unlock, also with a preimage
-    pub unlock_room : 99 ≤ length out
-    unlock_room = omega (arith, r, joined_size, at_least p.flag)
-
-    module _ (o₁ : List ℕ) (e₁ : o₁ ≡ sets out 0 unlock) where
-      -- for a state behind it
-      pub after_room : at + (73 + length (flatten (tlcs h s))) ≤ length o₁
-      after_room = omega (arith, r, joined_size, ap length e₁, length-sets out 0 unlock)
-
-      -- also in the part of the output that begins there
-      pub part_room : 73 + length (flatten (tlcs h s)) ≤ length (take (length o₁ - at) (drop at o₁))
-      part_room = rest_room o₁ at (73 + length (flatten (tlcs h s))) after_room
-
-      -- the state after it was written to that part
-      module _ (y₂ : List ℕ) (e₂ : y₂ ≡ sets (take (length o₁ - at) (drop at o₁)) 0 after) where
-        abbrev o₂ : List ℕ
-        o₂ = take at o₁ ++ (y₂ ++ drop (length o₁ - at) (drop at o₁))
-
-        o₂_is : o₂ ≡ sets o₁ at after
-        o₂_is = sets_part o₁ at after y₂ (omega (arith, after_room)) e₂
-
-        -- there is room for the other one
-        pub before_room : at + (73 + length (flatten (tlcs h s))) ≤ length o₂
-        before_room = omega (arith, after_room, ap length o₂_is, length-sets o₁ at after)
-
-        module _ (marks : List Bool) (n : marks ≡ no_marks) where
-          -- what `put_state` is asked for
-          pub before_asks : (length s / (98 + h) ≡ length (others h s marks)) × (73 + length (flatten (others h s marks)) ≤ length (take (length o₂ - at) (drop at o₂)))
-          before_asks = rw (others_all h s marks n) (sym (tlcs_length h s), rest_room o₂ at (73 + length (flatten (tlcs h s))) before_room)
-
-          -- what it leaves
-          module _ (size : ℕ) (y₃ : List ℕ)
-              (w₃ : (size ≡ length (state_bytes (others h s marks) (share_left false remote) (share_left false local)))
-              × (y₃ ≡ sets (take (length o₂ - at) (drop at o₂)) 0 (state_bytes (others h s marks) (share_left false remote) (share_left false local)))) where
-            abbrev o₃ : List ℕ
-            o₃ = take at o₂ ++ (y₃ ++ drop (length o₂ - at) (drop at o₂))
-
-            -- it is the state before the unlock
-            all : (size ≡ length before) × (y₃ ≡ sets (take (length o₂ - at) (drop at o₂)) 0 before)
-            all = rw (others_all h s marks n, share_kept remote, share_kept local) at w₃
-
-            size_is : size ≡ 73 + length (flatten (tlcs h s))
-            size_is = all.0 ∙ state_size (tlcs h s) remote local d f
-
-            o₃_is : o₃ ≡ sets o₂ at before
-            o₃_is = sets_part o₂ at before y₃ (omega (arith, before_room)) all.1
-
-            -- and for the new args
-            pub new_room : (at + size + 57 ≤ length o₃) × (at + size + length args ≤ length o₃)
-            new_room =
-                let q : length o₃ ≡ length out =
-                ap length o₃_is ∙ length-sets o₂ at before ∙ ap length o₂_is ∙ length-sets o₁ at after ∙ ap length e₁ ∙ length-sets out 0 unlock in
-                (omega (arith, r, joined_size, q, size_is), omega (arith, r, joined_size, q, size_is))
-
-            -- whose place is small
-            pub new_place : length (entries (tracked_len h) s) ≤ 254 → h ≤ 32 → at + size ≤ 24810
-            new_place g l = omega (arith, size_is, tlcs_flat h s, state_small h s g l, w, unlock_most p.flag)
-
-            -- the four writes are one
-            pub joined_puts : (o₄ hash : List ℕ) → hash ≡ ckb_hash after → o₄ ≡ sets o₃ (at + size) (take 36 args ++ take 20 hash ++ (1 ∷ []) ++ drop 57 args)
-                → o₄ ≡ sets out 0 (joined args (entries (tracked_len h) s) (entries pair_len preimages) remote local p)
-            unfolding joined new_args
-            joined_puts o₄ hash y e₄ =
-                let k : at ≡ 0 + length unlock = omega (arith, unlock_size_lem) in
-                let t = state_size (tlcs h s) remote local d f in
-                let u : o₃ ≡ sets o₁ at before =
-                o₃_is
-                ∙ ap (λ (l : List ℕ). sets l at before) o₂_is
-                ∙ sets_over o₁ after before at (omega (arith, after_room, t)) (omega (arith, t, after_size (tlcs h s) remote local p d f)) in
-                let m : at + size ≡ 0 + length (unlock ++ before) = omega (arith, size_is, t, length-append unlock before, unlock_size_lem) in
-                sets_next out (unlock ++ before) _ 0 (at + size) (sets_next out unlock before 0 at e₁ u k) e₄ m
-                ∙ ap (λ (x : List ℕ). sets out 0 (unlock ++ before ++ (take 36 args ++ take 20 x ++ (1 ∷ []) ++ drop 57 args))) y
+  -- the four writes are one, each to the part behind the one before it, but the state after the unlock, which the state before it is written over
+  pub joined_puts : (out o₁ y₂ y₃ o₄ hash : List ℕ) (at size : ℕ) → length (joined args (entries (tracked_len h) s) (entries pair_len preimages) remote local p) ≤ length out
+      → at ≡ witness_len p.flag
+      → o₁ ≡ sets out 0 unlock
+      → y₂ ≡ sets (take (length o₁ - at) (drop at o₁)) 0 after
+      → hash ≡ ckb_hash after
+      → let o₂ = take at o₁ ++ (y₂ ++ drop (length o₁ - at) (drop at o₁)) in
+      (size ≡ length before) × (y₃ ≡ sets (take (length o₂ - at) (drop at o₂)) 0 before)
+      → let o₃ = take at o₂ ++ (y₃ ++ drop (length o₂ - at) (drop at o₂)) in
+      o₄ ≡ sets o₃ (at + size) (take 36 args ++ take 20 hash ++ (1 ∷ []) ++ drop 57 args)
+      → o₄ ≡ sets out 0 (joined args (entries (tracked_len h) s) (entries pair_len preimages) remote local p)
+  unfolding joined new_args
+  joined_puts out o₁ y₂ y₃ o₄ hash at size r w e₁ e₂ y e₃ e₄ =
+      let t = state_size (tlcs h s) remote local d f in
+      let v = after_size (tlcs h s) remote local p d f in
+      let room : at + length before ≤ length o₁ = omega (arith, r, w, t, joined_size, ap length e₁, length-sets out 0 unlock) in
+      let o₂ : List ℕ = take at o₁ ++ (y₂ ++ drop (length o₁ - at) (drop at o₁)) in
+      let o₂_is : o₂ ≡ sets o₁ at after = sets_part o₁ at after y₂ (omega (arith, room)) e₂ in
+      let u : take at o₂ ++ (y₃ ++ drop (length o₂ - at) (drop at o₂)) ≡ sets o₁ at before =
+      sets_part o₂ at before y₃ (omega (arith, room, ap length o₂_is, length-sets o₁ at after)) e₃.1
+      ∙ ap (λ (l : List ℕ). sets l at before) o₂_is
+      ∙ sets_over o₁ after before at room (omega (arith, t, v)) in
+      let k : at ≡ 0 + length unlock = omega (arith, unlock_size_lem, w) in
+      let m : at + size ≡ 0 + length (unlock ++ before) = omega (arith, e₃.0, length-append unlock before, unlock_size_lem, w) in
+      sets_next out (unlock ++ before) _ 0 (at + size) (sets_next out unlock before 0 at e₁ u k) e₄ m
+      ∙ ap (λ (x : List ℕ). sets out 0 (unlock ++ before ++ (take 36 args ++ take 20 x ++ (1 ∷ []) ++ drop 57 args))) y
 
 -- ---- a choice as a plan
 
 -- of a choice among n TLCs and m pairs, its TLC is among n
-pub within_tlcs : (n m : ℕ) (c : Choice) → Within n m c → Below n c
+within_tlcs : (n m : ℕ) (c : Choice) → Within n m c → Below n c
 unfolding Within
 within_tlcs n m c w = w.0
 
 -- its pair is among m
-pub within_pairs : (n m : ℕ) (c : Choice) → Within n m c → PairIn m c
+within_pairs : (n m : ℕ) (c : Choice) → Within n m c → PairIn m c
 unfolding Within
 within_pairs n m c w = w.1
-
--- the length of the new args
-pub new_length : (n k : ℕ) → ((k < 57) × (n ≡ 57)) ⊎ ((57 ≤ k) × (n ≡ k)) → n ≡ 57 + (k - 57)
-new_length n k (inl x) = omega (arith, x.0, x.1)
-new_length n k (inr x) = omega (arith, x.0, x.1)
 
 -- its byte is a byte
 pub plan_byte : (n : ℕ) (c : Choice) → n ≤ 254 → Below n c → (plan_of n c).byte ≤ 255
@@ -549,33 +400,25 @@ plan_after_lem n rs remote local (ChoiceCase.Tlc place (WayCase.Preimage pair_pl
 
 -- ---- what is handed out
 
-module _ (h : ℕ) (args s preimages out : List ℕ) (remote local : List ℕ) (choice : Choice) (p : Plan) (e : p ≡ plan_of (length s / (98 + h)) choice)
+module _ (h : ℕ) (args s preimages remote local : List ℕ) (choice : Choice) (n : ℕ) (p : Plan)
+    (m : n ≡ length (entries (tracked_len h) s)) (e : p ≡ plan_of n choice)
     (a : 36 ≤ length args) (d : length remote ≡ 36) (f : length local ≡ 36)
-    (b : PairIn (length (entries pair_len preimages)) choice) where
+    (b : Within (length (entries (tracked_len h) s)) (length (entries pair_len preimages)) choice) where
   abbrev es : List (List ℕ)
   es = entries (tracked_len h) s
 
   abbrev ps : List (List ℕ)
   ps = entries pair_len preimages
 
-  -- what `put_joined` wants of the plan
-  pub planned : length es ≤ 254 → Below (length es) choice
-      → (p.byte ≤ 255) × (((64 * p.pair_place + 64 ≤ length preimages) ⊎ (p.flag ≡ false)) × (p.skip ≤ 255))
-  planned g w =
-      let n : length es ≡ length s / (98 + h) = omega (arith, tracked_length es, tlcs_length h s) in
-      let b' = rw n at w in
-      rw e
-      (plan_byte (length s / (98 + h)) choice (few_tracked h s g) b', (plan_pair (length s / (98 + h)) preimages choice b, plan_skip (length s / (98 + h)) choice (few_tracked h s g) b'))
-
   -- its pair is whole
-  pub planned_pair : (64 * p.pair_place + 64 ≤ length preimages) ⊎ (p.flag ≡ false)
-  planned_pair = rw e (plan_pair (length s / (98 + h)) preimages choice b)
+  planned_pair : (64 * p.pair_place + 64 ≤ length preimages) ⊎ (p.flag ≡ false)
+  planned_pair = rw e (plan_pair n preimages choice (within_pairs (length es) (length ps) choice b))
 
   unlock_same : unlock_of ps choice ≡ plan_unlock ps p
-  unlock_same = rw e (plan_unlock_lem (length s / (98 + h)) ps choice)
+  unlock_same = rw e (plan_unlock_lem n ps choice)
 
   after_same : state_after (tlcs h s) remote local (takes choice) ≡ plan_after (tlcs h s) remote local p
-  after_same = rw e (plan_after_lem (length s / (98 + h)) (tlcs h s) remote local choice (sym (tlcs_length h s)))
+  after_same = rw e (plan_after_lem n (tlcs h s) remote local choice (m ∙ sym (tracked_length es)))
 
   -- the three parts are those of the plan
   whole : unlock_of ps choice ++ state_bytes (tlcs h s) remote local ++ new_args args (state_after (tlcs h s) remote local (takes choice))
@@ -583,46 +426,51 @@ module _ (h : ℕ) (args s preimages out : List ℕ) (remote local : List ℕ) (
   unfolding joined
   whole = rw (unlock_same, after_same)
 
-  module _ (last : Bool) (key : Key) (delay : Delay) (place u k : ℕ) (eu : u ≡ witness_len p.flag) (ek : k ≡ 57 + (length args - 57)) where
+  module _ (last : Bool) (key : Key) (delay : Option Epoch) (place u k : ℕ) (eu : u ≡ witness_len p.flag) (ek : k ≡ 57 + (length args - 57)) (out : List ℕ) where
+    abbrev size : ℕ
+    size = u + (73 + n * record_len h) + k
+
+    abbrev handed : Outcome Answer
+    handed = handed_out h args es ps remote local last choice key delay place out
+
     -- their length, as the code has it
-    pub handed_size : length (joined args es ps remote local p) ≡ u + (73 + length s / (98 + h) * record_len h) + k
-    handed_size = omega (arith, joined_size h args s preimages remote local p a d f planned_pair, tlcs_flat h s)
+    handed_size : length (joined args es ps remote local p) ≡ size
+    handed_size = rw m (omega (arith, joined_size h args s preimages remote local p a d f planned_pair, tlcs_flat h s))
 
     -- 13
-    pub handed_short : length out < u + (73 + length s / (98 + h) * record_len h) + k
-        → (AnswerCase.Refused 13 (u + (73 + length s / (98 + h) * record_len h) + k) ≡ (handed_out h args es ps remote local last choice key delay place out).answer) × (out ≡ (handed_out h args es ps remote local last choice key delay place out).bytes)
+    pub handed_short : length out < size → (refused (OutputShort size) ≡ handed.answer) × (out ≡ handed.bytes)
     unfolding handed_out
     handed_short g =
-        let t = lt-leb (u + (73 + length s / (98 + h) * record_len h) + k) (length out) g in
+        let t = lt-leb size (length out) g in
         (rw (whole, handed_size, t), rw (whole, handed_size, t))
 
     -- all is written
-    pub handed_whole : u + (73 + length s / (98 + h) * record_len h) + k ≤ length out
-        → (m : Amount) (l : ℕ) (out' : List ℕ) → m ≡ choice_amount (tlcs h s) remote local choice → l ≡ record_size h choice
+    pub handed_whole : size ≤ length out
+        → (x : Amount) (l : ℕ) (out' : List ℕ) → x ≡ choice_amount (tlcs h s) remote local choice → l ≡ record_size h choice
         → out' ≡ sets out 0 (joined args es ps remote local p)
-        → (AnswerCase.Chosen (record {
+        → (decided (record {
           choice = choice;
-          amount = m;
+          amount = x;
           key = key;
           delay = delay;
           unlock_len = u;
-          state_len = 73 + length s / (98 + h) * record_len h;
+          state_len = 73 + n * record_len h;
           args_len = k;
           place = place;
           len = l;
           last = last;
         })
-        ≡ (handed_out h args es ps remote local last choice key delay place out).answer)
-        × (out' ≡ (handed_out h args es ps remote local last choice key delay place out).bytes)
+        ≡ handed.answer)
+        × (out' ≡ handed.bytes)
     unfolding handed_out
-    handed_whole g m l out' em el eo =
-        let t = le-leb (u + (73 + length s / (98 + h) * record_len h) + k) (length out) g in
+    handed_whole g x l out' ex el eo =
+        let t = le-leb size (length out) g in
         let n₁ : length (unlock_of ps choice) ≡ u = ap length unlock_same ∙ unlock_size_lem h args s preimages remote local p a d f planned_pair ∙ sym eu in
-        let n₂ : length (state_bytes (tlcs h s) remote local) ≡ 73 + length s / (98 + h) * record_len h =
-        state_size (tlcs h s) remote local d f ∙ ap (λ (j : ℕ). 73 + j) (tlcs_flat h s) in
+        let n₂ : length (state_bytes (tlcs h s) remote local) ≡ 73 + n * record_len h =
+        state_size (tlcs h s) remote local d f ∙ ap (λ (j : ℕ). 73 + j) (tlcs_flat h s ∙ ap (λ (j : ℕ). j * record_len h) (sym m)) in
         let n₃ : length (new_args args (state_after (tlcs h s) remote local (takes choice))) ≡ k =
         new_size h args s preimages remote local p a d f planned_pair (state_after (tlcs h s) remote local (takes choice)) ∙ sym ek in
-        (rw (whole, handed_size, t, n₁, n₂, n₃, em, el), rw (whole, handed_size, t) eo)
+        (rw (whole, handed_size, t, n₁, n₂, n₃, ex, el), rw (whole, handed_size, t) eo)
 
 -- no unlock makes a state longer
 pub after_small : (rs : List (List ℕ)) (remote local : List ℕ) (c : Choice) → length remote ≡ 36 → length local ≡ 36
@@ -715,12 +563,12 @@ module _ {h : ℕ} {tlcs : List (List ℕ)} {remote local : List ℕ} (ok : Soun
       ∙ ap (λ (ps : List ℕ). start ∷ ps) (places_nil w (start + unlock_len w start) (omega (arith, w_length, w_len)))
 
   -- it is read whole
-  w_read : read_witness h w ≡ ReadCase.Whole (length tlcs) 1 (behind_tlcs h (length tlcs)) start
+  w_read : read_witness h w ≡ read_whole (length tlcs) 1 (behind_tlcs h (length tlcs)) start
   w_read =
       read_sound ok count u
-      ∙ ap (λ (ps : List ℕ). unless_cut w ps (ReadCase.Refused 4) (ReadCase.Whole (length tlcs) (length ps) (behind_tlcs h (length tlcs)) start)) w_places
-      ∙ cut_passed w (ReadCase.Refused 4) _ start [] (omega (arith, w_length, w_len))
-      ∙ cut_none w (ReadCase.Refused 4) _
+      ∙ ap (λ (ps : List ℕ). unless_cut w ps cut_at (read_whole (length tlcs) (length ps) (behind_tlcs h (length tlcs)) start)) w_places
+      ∙ cut_passed w cut_at _ start [] (omega (arith, w_length, w_len))
+      ∙ cut_none w cut_at _
 
   -- all unlocks are taken
   w_unlocks : take_unlocks (length tlcs) (behind_tlcs h (length tlcs)) w none (places w start) ≡ fine (length tlcs) (behind_tlcs h (length tlcs)) (takes c)
@@ -731,10 +579,10 @@ module _ {h : ℕ} {tlcs : List (List ℕ)} {remote local : List ℕ} (ok : Soun
   pub unlock_accepted : (out : List ℕ) → length (state_after tlcs remote local (takes c)) ≤ length out
       → updated h w out
       ≡ record {
-        answer = WrittenCase.Bytes (length (state_after tlcs remote local (takes c)));
+        answer = Ok (length (state_after tlcs remote local (takes c)));
         bytes = sets out 0 (state_after tlcs remote local (takes c));
       }
   unfolding state_after
   unlock_accepted out g =
-      updated_fine h w out (length tlcs) 1 (behind_tlcs h (length tlcs)) start w_read (takes c) w_unlocks
+      updated_fine h w out (record { n = length tlcs; unlock_count = 1; share_place = behind_tlcs h (length tlcs); first_unlock = start }) w_read (takes c) w_unlocks
       ∙ rw (state_left_lem ok count u (takes c)) (outcome_room (state_after tlcs remote local (takes c)) out g)

@@ -3,15 +3,14 @@
 use Prim.Native.Nat.{ℕ, ◌+◌, ◌*◌, ◌≤◌, ◌<◌}
 use native.Mathlib.Omega.{arith}
 use mathlib.Core.Path.{◌≡◌, refl, sym, ap, subst, ◌∙◌}
-use mathlib.Core.Bool.{Bool, cond}
+use mathlib.Core.Bool.{Bool}
 use mathlib.Core.List.{List, []}
 use lib.ListN.{length, get_or, drop}
 use lib.Seq.{take-take}
+use Rattle.std.specs.Prelude.{Option, Some, None}
 use Rattle.fiber_bytes.specs.Bytes.{part}
 use Rattle.fiber_bytes.proofs.BytesLaws.{part_part}
 use Rattle.fiber_bytes.proofs.CaseLaws.{by_each}
-use Rattle.fiber_choice.specs.declared.kinds.Found.{Found}
-use Rattle.fiber_choice.specs.declared.kinds.Found.TheVariants as FoundCase
 use Rattle.fiber_choice.specs.Entries.{same, entries, find_first, tracked_hash, tracked_algorithm, pair_len, pair_hash, pair_preimage}
 use Rattle.fiber_choice.specs.Preimages.{digest, find_pair, counts_at, if_counts, counting_pair}
 use Rattle.fiber_choice.proofs.EntriesLaws.{FoundBelow, found_below, entries_length, entry_at}
@@ -42,15 +41,11 @@ unfolding find_pair
 pair_below ps hash = found_below (has_hash hash) ps 0 (length ps) (omega arith)
 
 -- the same, of one that is known
-pub pair_room : (ps : List (List ℕ)) (hash : List ℕ) (pair_place : ℕ) → FoundCase.At pair_place ≡ find_pair ps hash → pair_place < length ps
+pub pair_room : (ps : List (List ℕ)) (hash : List ℕ) (pair_place : ℕ) → Some pair_place ≡ find_pair ps hash → pair_place < length ps
 pair_room ps hash pair_place e = subst (FoundBelow (length ps)) (sym e) (pair_below ps hash)
 
--- what the code finds, where it looks for a tracked TLC's hash
-pub pair_of : (ps : List (List ℕ)) (t l : List ℕ) (r x : Found) → l ≡ tracked_hash t → r ≡ find_pair ps l → r ≡ x → x ≡ find_pair ps (tracked_hash t)
-pair_of ps t l r x e f g = sym g ∙ f ∙ ap (find_pair ps) e
-
 -- in bytes
-pub pair_bytes : (s hash : List ℕ) (pair_place : ℕ) → FoundCase.At pair_place ≡ find_pair (entries pair_len s) hash → 64 * pair_place + 64 ≤ length s
+pub pair_bytes : (s hash : List ℕ) (pair_place : ℕ) → Some pair_place ≡ find_pair (entries pair_len s) hash → 64 * pair_place + 64 ≤ length s
 pair_bytes s hash pair_place e = omega (arith, pair_room (entries pair_len s) hash pair_place e, entries_length pair_len s)
 
 -- the preimage of the pair at a place
@@ -61,22 +56,11 @@ pair_preimage_lem s pair_place h =
     ∙ part_part s (pair_place * 64) 64 32 32 (omega arith)
     ∙ ap (λ (k : ℕ). part s k 32) e
 
-module _ (ps : List (List ℕ)) (t : List ℕ) where
-  -- no pair has the hash
-  pub counting_none : FoundCase.None ≡ find_pair ps (tracked_hash t) → counting_pair ps t ≡ FoundCase.None
-  unfolding counting_pair if_counts
-  counting_none e = rw (← e)
-
-  -- the first that has it counts, or not
-  pub counting_at : (pair_place : ℕ) (b : Bool) → FoundCase.At pair_place ≡ find_pair ps (tracked_hash t) → b ≡ counts_at ps t pair_place → counting_pair ps t ≡ cond b (FoundCase.At pair_place) FoundCase.None
-  unfolding counting_pair if_counts
-  counting_at pair_place b e f = rw (← e, ← f)
-
 -- a pair that counts is one of the list
 pub counting_below : (ps : List (List ℕ)) (t : List ℕ) → FoundBelow (length ps) (counting_pair ps t)
 unfolding counting_pair if_counts
 counting_below ps t = go (find_pair ps (tracked_hash t)) (pair_below ps (tracked_hash t))
   where
-    go : (f : Found) → FoundBelow (length ps) f → FoundBelow (length ps) (if_counts ps t f)
-    go (FoundCase.At i) g = by_each (FoundBelow (length ps)) (counts_at ps t i) _ _ g tt
-    go FoundCase.None g = tt
+    go : (f : Option ℕ) → FoundBelow (length ps) f → FoundBelow (length ps) (if_counts ps t f)
+    go (Some i) g = by_each (FoundBelow (length ps)) (counts_at ps t i) _ _ g tt
+    go None g = tt

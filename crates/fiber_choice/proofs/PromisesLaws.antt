@@ -11,16 +11,20 @@ use lib.Dec.{eqb, ltb, leb}
 use lib.ListN.{length, get_or, take, drop, replicate, length-append}
 use lib.Seq.{sets, sets-eq, drop-drop, take_at, drop_at}
 use borrow.Author.Tests.{lt-ltb, ltb-true, le-leb, leb-true, eq-eqb, eqb-true}
+use Rattle.std.specs.Prelude.{Option, Some, None, Result, Ok, Err}
+use Rattle.fiber_refusal.specs.declared.Refusal.{Refusal}
+use Rattle.fiber_refusal.specs.declared.Refusal.TheVariants.{TlcCut, UnlockCut, LengthZero, ArgsShort, NoDelay, TooManyTlcs, OutputShort, NotWell}
+use Rattle.fiber_choice.specs.declared.kinds.NoChoice.{NoChoice}
+use Rattle.fiber_choice.specs.declared.kinds.NoChoice.TheVariants as NoChoiceCase
+use Rattle.fiber_choice.specs.Answered.{Answer, decided, waiting, refused, Ready, begins, stops_waiting, stops}
 use Rattle.fiber_bytes.specs.Bytes.{part}
 use Rattle.fiber_bytes.proofs.BytesLaws.{part_length, part_part}
 use Rattle.fiber_bytes.proofs.CaseLaws.{by_test, by_each, by_test₂}
 use Rattle.fiber_since.specs.declared.epoch.Epoch.{Epoch}
-use Rattle.fiber_since.specs.declared.epoch.Scaled.{Scaled}
-use Rattle.fiber_since.specs.declared.epoch.Scaled.TheVariants as ScaledCase
 use Rattle.fiber_since.specs.Epoch.{scaled}
-use Rattle.fiber_types.specs.declared.answer.Written.TheVariants as WrittenCase
 use Rattle.fiber_types.specs.declared.tlc.Amount.{Amount}
-use Rattle.fiber_types.specs.Records.{valid_hash_len, amount_at, outcome}
+use Rattle.fiber_types.specs.HashLen.{valid_hash_len}
+use Rattle.fiber_types.specs.Records.{amount_at, outcome}
 use Rattle.fiber_types.proofs.RecordsLaws.{unlock_bytes_length, outcome_room, at_least}
 use Rattle.fiber_witness.specs.Unlocks.{unlocks_in}
 use Rattle.fiber_witness.specs.Witness.{record_len, state_bytes}
@@ -36,18 +40,12 @@ use Rattle.fiber_choice.specs.declared.kinds.Choice.{Choice}
 use Rattle.fiber_choice.specs.declared.kinds.Choice.TheVariants as ChoiceCase
 use Rattle.fiber_choice.specs.declared.kinds.Key.{Key}
 use Rattle.fiber_choice.specs.declared.kinds.Key.TheVariants as KeyCase
-use Rattle.fiber_choice.specs.declared.kinds.Delay.{Delay}
-use Rattle.fiber_choice.specs.declared.kinds.Delay.TheVariants as DelayCase
 use Rattle.fiber_choice.specs.declared.kinds.Wait.{Wait}
 use Rattle.fiber_choice.specs.declared.kinds.Stage.{Stage}
 use Rattle.fiber_choice.specs.declared.kinds.Stage.TheVariants as StageCase
-use Rattle.fiber_choice.specs.declared.kinds.Ready.{Ready}
-use Rattle.fiber_choice.specs.declared.kinds.Ready.TheVariants as ReadyCase
 use Rattle.fiber_choice.specs.declared.kinds.Step.{Step}
 use Rattle.fiber_choice.specs.declared.kinds.Step.TheVariants as StepCase
 use Rattle.fiber_choice.specs.declared.kinds.Decision.{Decision}
-use Rattle.fiber_choice.specs.declared.kinds.ChoiceAnswer.{ChoiceAnswer}
-use Rattle.fiber_choice.specs.declared.kinds.ChoiceAnswer.TheVariants as AnswerCase
 use Rattle.fiber_choice.specs.Entries.{same, entries, tracked_len, tracked_records, pair_len}
 use Rattle.fiber_choice.specs.Request.{Request, settlement_tlcs, tracked_tlcs, pairs, valid_request, delay_of}
 use Rattle.fiber_choice.specs.FirstRecords.{first_records, first_remote, first_local, first_state}
@@ -168,7 +166,7 @@ later_time_walk h for_remote time time' tlcs ps stage ts t =
 
 -- the update of the witness leaves this state, or the settlement data is written so
 abbrev States : Request → Bool → List ℕ → List ℕ → Type 0
-States q true w s = (into : List ℕ) → length s ≤ length into → updated q.h w into ≡ record { answer = WrittenCase.Bytes (length s); bytes = sets into 0 s }
+States q true w s = (into : List ℕ) → length s ≤ length into → updated q.h w into ≡ record { answer = Ok (length s); bytes = sets into 0 s }
 States q false w s = s ≡ first_state q.h q.for_remote q.settlement
 
 -- No row before the walk applies: at every time one step decides, over the same TLCs and shares, and what it chooses is handed out.
@@ -176,7 +174,7 @@ record Begun (q : Request) (is_later : Bool) (w : List ℕ) : Type 0 where
   remote : List ℕ
   local : List ℕ
   last : Bool
-  delay : Choice → Delay
+  delay : Choice → Option Epoch
   place : Choice → ℕ
   stage : Stage
   stage_is : IsStage q is_later stage
@@ -230,7 +228,7 @@ module _ (q : Request) (w : List ℕ) (n share_place : ℕ) (t : Taken) where
   abbrev other : List ℕ
   other = cond q.for_remote remote_left local_left
 
-  module _ (v : valid_request q ≡ true) (full : Epoch) (f : delay_of q.args ≡ ScaledCase.Epoch full) (u : unlocked q.h w ≡ fine n share_place t) (r : later_ready q stand ours ≡ ReadyCase.Yes) where
+  module _ (v : valid_request q ≡ true) (full : Epoch) (f : delay_of q.args ≡ Ok full) (u : unlocked q.h w ≡ fine n share_place t) (r : later_ready q stand ours ≡ begins) where
     stand_left : tlcs_before q true w ≡ stand
     unfolding tlcs_left
     stand_left = rw u
@@ -270,7 +268,7 @@ module _ (q : Request) (w : List ℕ) (n share_place : ℕ) (t : Taken) where
       remote = remote_left;
       local = local_left;
       last = is_last other;
-      delay = λ c. DelayCase.None;
+      delay = λ c. None;
       place = later_place q.h (unsettled t.settled 0 n);
       stage = StageCase.Later;
       stage_is = later_stage;
@@ -293,8 +291,8 @@ module _ (q : Request) (w : List ℕ) (n share_place : ℕ) (t : Taken) where
 
 -- ---- in a first settlement
 
-module _ (q : Request) (w : List ℕ) (v : valid_request q ≡ true) (full : Epoch) (f : delay_of q.args ≡ ScaledCase.Epoch full)
-    (third two : Epoch) (x : scaled full 1 3 ≡ ScaledCase.Epoch third) (y : scaled full 2 3 ≡ ScaledCase.Epoch two) (r : first_ready q full ≡ ReadyCase.Yes) where
+module _ (q : Request) (w : List ℕ) (v : valid_request q ≡ true) (full : Epoch) (f : delay_of q.args ≡ Ok full)
+    (third two : Epoch) (x : scaled full 1 3 ≡ Ok third) (y : scaled full 2 3 ≡ Ok two) (r : first_ready q full ≡ begins) where
   abbrev stage : Stage
   stage = StageCase.First (dues_by q.header third two full q.current)
 
@@ -320,7 +318,7 @@ module _ (q : Request) (w : List ℕ) (v : valid_request q ≡ true) (full : Epo
         remote = first_remote q.for_remote d;
         local = first_local q.for_remote d;
         last = false;
-        delay = λ c. DelayCase.Epoch (first_delay third two full c);
+        delay = λ c. Some (first_delay third two full c);
         place = first_place q.h;
         stage = stage;
         stage_is = first_stage f x y;
@@ -344,47 +342,46 @@ module _ (q : Request) (w : List ℕ) (v : valid_request q ≡ true) (full : Epo
 -- ---- where the walk is answered, it may
 
 module _ (q : Request) (w out : List ℕ) where
-  abbrev Begins : Bool → Outcome ChoiceAnswer → Type 0
+  abbrev Begins : Bool → Outcome Answer → Type 0
   Begins is_later o = FromWalk o.answer → Begun q is_later w
 
-  module _ (v : valid_request q ≡ true) (full : Epoch) (f : delay_of q.args ≡ ScaledCase.Epoch full) where
+  module _ (v : valid_request q ≡ true) (full : Epoch) (f : delay_of q.args ≡ Ok full) where
     later_begins : Begins true (later q w out)
     unfolding later later_of later_state if_ready
     later_begins = go (unlocked q.h w) refl
       where
-        ready_by : (n share_place : ℕ) (t : Taken) (u : unlocked q.h w ≡ fine n share_place t) (r : Ready) (o : Outcome ChoiceAnswer)
+        ready_by : (n share_place : ℕ) (t : Taken) (u : unlocked q.h w ≡ fine n share_place t) (r : Ready) (o : Outcome Answer)
             → later_ready q (stand q w n share_place t) (ours q w n share_place t) ≡ r → Begins true (if_ready r out o)
-        ready_by n share_place t u ReadyCase.Yes o r e = later_begun q w n share_place t v full f u r
-        ready_by n share_place t u (ReadyCase.Wait wait) o r e = absurd (omega (arith, e, subst Early r (later_ready_early q (stand q w n share_place t) (ours q w n share_place t))))
-        ready_by n share_place t u (ReadyCase.Refused number) o r e = absurd e
+        ready_by n share_place t u (Ok go) o r e = later_begun q w n share_place t v full f u r
+        ready_by n share_place t u (Err (NoChoiceCase.Wait wait)) o r e = absurd (omega (arith, e, subst Early r (later_ready_early q (stand q w n share_place t) (ours q w n share_place t))))
+        ready_by n share_place t u (Err (NoChoiceCase.Refused why)) o r e = absurd e
 
         go : (x : Unlocked) → unlocked q.h w ≡ x → Begins true (later_of q w out x)
         go (fine n share_place t) u = ready_by n share_place t u _ _ refl
-        go (faulty number place) u = λ e. absurd e
+        go (faulty why) u = λ e. absurd e
 
     first_begins : Begins false (first q full out)
     unfolding first first_thirds if_ready
     first_begins = go (first_ready q full) refl
       where
-        thirds : first_ready q full ≡ ReadyCase.Yes → (x y : Scaled) → scaled full 1 3 ≡ x → scaled full 2 3 ≡ y → Begins false (first_thirds q out full x y)
-        thirds r (ScaledCase.Epoch third) (ScaledCase.Epoch two) x y e = first_begun q w v full f third two x y r
-        thirds r (ScaledCase.Epoch third) (ScaledCase.Refused n p) x y e = absurd e
-        thirds r (ScaledCase.Refused n p) (ScaledCase.Epoch two) x y e = absurd e
-        thirds r (ScaledCase.Refused n p) (ScaledCase.Refused m k) x y e = absurd e
+        thirds : first_ready q full ≡ begins → (x y : Result Epoch Refusal) → scaled full 1 3 ≡ x → scaled full 2 3 ≡ y → Begins false (first_thirds q out full x y)
+        thirds r (Ok third) (Ok two) x y e = first_begun q w v full f third two x y r
+        thirds r (Ok third) (Err why) x y e = absurd e
+        thirds r (Err why) two x y e = absurd e
 
         go : (r : Ready) → first_ready q full ≡ r → Begins false (if_ready r out (first_thirds q out full (scaled full 1 3) (scaled full 2 3)))
-        go ReadyCase.Yes r = thirds r (scaled full 1 3) (scaled full 2 3) refl refl
-        go (ReadyCase.Wait wait) r = λ e. absurd (omega (arith, e, subst Early r (first_ready_early q full)))
-        go (ReadyCase.Refused number) r = λ e. absurd e
+        go (Ok begun) r = thirds r (scaled full 1 3) (scaled full 2 3) refl refl
+        go (Err (NoChoiceCase.Wait wait)) r = λ e. absurd (omega (arith, e, subst Early r (first_ready_early q full)))
+        go (Err (NoChoiceCase.Refused why)) r = λ e. absurd e
 
   choice_begins : (is_later : Bool) → Begins is_later (choice_of q is_later w out)
   unfolding choice_of after_delay
   choice_begins is_later = by_test (Begins is_later) (valid_request q) _ _ (λ v. go v (delay_of q.args) is_later refl) (λ _ e. absurd e)
     where
-      go : valid_request q ≡ true → (s : Scaled) (is_later : Bool) → delay_of q.args ≡ s → Begins is_later (after_delay q is_later w out s)
-      go v (ScaledCase.Epoch full) true f = later_begins v full f
-      go v (ScaledCase.Epoch full) false f = first_begins v full f
-      go v (ScaledCase.Refused number place) is_later f = λ e. absurd e
+      go : valid_request q ≡ true → (s : Result Epoch Refusal) (is_later : Bool) → delay_of q.args ≡ s → Begins is_later (after_delay q is_later w out s)
+      go v (Ok full) true f = later_begins v full f
+      go v (Ok full) false f = first_begins v full f
+      go v (Err r) is_later f = λ e. absurd e
 
 -- ---- what is handed out
 
@@ -421,10 +418,9 @@ other_key_lem for_remote rs remote local e f shares g = go for_remote
     go false = ap (take 20) (sym (drop_at remote local 36 e) ∙ ap (drop 36) (sym behind) ∙ drop-drop 36 shares state)
 
 -- a wait or a refusal
-abbrev Undecided : ChoiceAnswer → Type 0
-Undecided (AnswerCase.Chosen d) = ⊥
-Undecided (AnswerCase.Wait wait) = Unit {0}
-Undecided (AnswerCase.Refused number place) = Unit {0}
+abbrev Undecided : Answer → Type 0
+Undecided (Ok d) = ⊥
+Undecided (Err why) = Unit {0}
 
 -- a step chooses one thing
 chosen_one : {x y : Choice} {a b : Key} → StepCase.Chosen x a ≡ StepCase.Chosen y b → x ≡ y
@@ -455,14 +451,14 @@ module _ (q : Request) (is_later : Bool) (w : List ℕ) (c : Begun q is_later w)
     size : d.state_len ≡ length before
 
   module _ (out : List ℕ) where
-    abbrev outcome_of : Step → Outcome ChoiceAnswer
+    abbrev outcome_of : Step → Outcome Answer
     outcome_of s = or_wait q c.remote c.local c.last c.delay c.place (wait_by q c.stage) out s
 
-    step_handed : (d : Decision) (s : Step) → c.step q.time ≡ s → (outcome_of s).answer ≡ AnswerCase.Chosen d → Handed out d (outcome_of s).bytes
+    step_handed : (d : Decision) (s : Step) → c.step q.time ≡ s → (outcome_of s).answer ≡ decided d → Handed out d (outcome_of s).bytes
     unfolding or_wait handed_out
     step_handed d (StepCase.Pending pending) f = λ e. absurd (subst Undecided e tt)
     step_handed d (StepCase.Chosen choice key) f =
-        by_test (λ (o : Outcome ChoiceAnswer). o.answer ≡ AnswerCase.Chosen d → Handed out d o.bytes) (leb (length (joined choice)) (length out)) _ _
+        by_test (λ (o : Outcome Answer). o.answer ≡ decided d → Handed out d o.bytes) (leb (length (joined choice)) (length out)) _ _
         (λ g e.
         let r : 0 + length (joined choice) ≤ length out = omega (arith, leb-true (length (joined choice)) (length out) g) in
         let p = parts_of (unlock_of (pairs q) choice) before (new_args q.args (after choice)) (drop (0 + length (joined choice)) out) (sets out 0 (joined choice)) (sets-eq (joined choice) out 0 r) in
@@ -471,7 +467,7 @@ module _ (q : Request) (is_later : Bool) (w : List ℕ) (c : Begun q is_later w)
         (λ _ e. absurd (subst Undecided e tt))
       where
         -- the answer holds one thing
-        inside : (x y : Decision) → AnswerCase.Chosen x ≡ AnswerCase.Chosen y → x ≡ y
+        inside : (x y : Decision) → decided x ≡ decided y → x ≡ y
         inside x y e = cc
 
     handed : (d : Decision) → Decides q is_later w out d → Handed out d (choice_of q is_later w out).bytes
@@ -500,7 +496,9 @@ module _ (q : Request) (is_later : Bool) (w : List ℕ) (c : Begun q is_later w)
     unfolding is_last
     last_state shares e =
         let f : shares + 72 ≡ length before = e ∙ t.size in
-        t.ends ∙ c.lasts ∙ ap (λ (k : List ℕ). is_later && same k (replicate 20 0)) (rw t.state (other_key_lem q.for_remote (tracked_records (tracked_tlcs q)) c.remote c.local c.remotes c.locals shares f))
+        let g : take 20 (cond q.for_remote c.remote c.local) ≡ other_key q shares (part bytes d.unlock_len d.state_len) =
+        rw t.state (other_key_lem q.for_remote (tracked_records (tracked_tlcs q)) c.remote c.local c.remotes c.locals shares f) in
+        t.ends ∙ c.lasts ∙ ap (λ (k : List ℕ). is_later && same k (replicate 20 0)) g
 
     walk_named : d.last ≡ false → (stage : Stage) × (IsStage q is_later stage × (walked_by q stage ≡ StepCase.Chosen d.choice d.key))
     walk_named e = (c.stage, (c.stage_is, sym (c.walks (sym t.ends ∙ e) q.time) ∙ t.chosen))
@@ -520,7 +518,7 @@ module _ (q : Request) (is_later : Bool) (w : List ℕ) (c : Begun q is_later w)
       chosen_few = rw f (omega (arith, chosen_below, ap length c.tlcs, tracked_length (tracked_tlcs q), c.few))
 
       -- its record and its amount
-      chosen_record : record_of is_later (AnswerCase.Chosen d) w q.tracked ≡ get_or (tlcs_before q is_later w) place []
+      chosen_record : record_of is_later (decided d) w q.tracked ≡ get_or (tlcs_before q is_later w) place []
       unfolding record_of record_size
       chosen_record = rw (t.begins, t.len, f) (c.recorded place way chosen_below)
 
@@ -620,15 +618,15 @@ module _ (q : Request) (is_later : Bool) (w : List ℕ) (c : Begun q is_later w)
         later_time = λ time i. later_choice_lem q is_later w c out d bytes t time (omega (arith, i));
       }
 
-decided : (q : Request) (is_later : Bool) (w out : List ℕ) (d : Decision) → Decides q is_later w out d
+is_decided : (q : Request) (is_later : Bool) (w out : List ℕ) (d : Decision) → Decides q is_later w out d
     → (c : Begun q is_later w) × Handed q is_later w c out d (choice_of q is_later w out).bytes
-decided q is_later w out d e =
+is_decided q is_later w out d e =
     let c = choice_begins q w out is_later (subst FromWalk (sym e) tt) in
     (c, handed q is_later w c out d e)
 
 pub promises : Promises
 promises q is_later w out d e =
-    let t = decided q is_later w out d e in
+    let t = is_decided q is_later w out d e in
     begun_promised q is_later w t.0 out d _ t.1
 
 -- ---- all promises of a wait
@@ -644,7 +642,7 @@ unfolding may_share
 stage_first q is_later stage later_stage e = absurd (false≢true (sym e))
 stage_first q is_later stage (first_stage a b c) e = refl
 
-module _ (q : Request) (is_later : Bool) (w : List ℕ) (c : Begun q is_later w) (out : List ℕ) (wait : Wait) (e : (choice_of q is_later w out).answer ≡ AnswerCase.Wait wait) where
+module _ (q : Request) (is_later : Bool) (w : List ℕ) (c : Begun q is_later w) (out : List ℕ) (wait : Wait) (e : (choice_of q is_later w out).answer ≡ waiting wait) where
   abbrev tracked : List (List ℕ)
   tracked = tracked_tlcs q
 
@@ -750,7 +748,7 @@ names_by tlcs remote local (ChoiceCase.Tlc place way) b = (b, (refl, refl))
 pub handed_parts : (q : Request) (is_later : Bool) (w out : List ℕ) (d : Decision) → Decides q is_later w out d → Parts q d (choice_of q is_later w out).bytes
 unfolding Within
 handed_parts q is_later w out d e =
-    let t = decided q is_later w out d e in
+    let t = is_decided q is_later w out d e in
     go t.0 t.1
   where
     go : (c : Begun q is_later w) → Handed q is_later w c out d (choice_of q is_later w out).bytes → Parts q d (choice_of q is_later w out).bytes

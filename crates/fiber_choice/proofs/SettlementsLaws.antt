@@ -4,30 +4,34 @@ use Prim.Native.Nat.{ℕ, zero, suc, ◌+◌, ◌-◌, ◌*◌, ◌/◌, ◌≤�
 use native.Mathlib.Nat.{suc-mul, zero-mul, mul-le-mul_right, sub-zero, sub-eq-zero_of_le}
 use native.Mathlib.Numerals.{add-one}
 use native.Mathlib.Omega.{arith}
-use mathlib.Core.Path.{◌≡◌, refl, sym, ap, subst, ◌∙◌}
-use mathlib.Core.Bool.{Bool, true, false, cond, ◌&&◌, ◌||◌, false≢true}
+use mathlib.Core.Path.{◌≡◌, refl, sym, ap, ap₂, subst, ◌∙◌}
+use mathlib.Core.Bool.{Bool, true, false, cond, not, ◌&&◌, ◌||◌, false≢true}
 use mathlib.Core.List.{List, [], ◌∷◌}
 use mathlib.Core.Logic.{◌⊎◌, inl, inr}
 use lib.Dec.{eqb, leb}
-use lib.ListN.{length, get_or, take, drop, replicate, drop_of_length-le}
-use lib.Seq.{drop-drop}
+use lib.ListN.{length, get_or, take, drop, replicate, drop_of_length-le, length-drop}
+use lib.Seq.{drop-drop, take_all}
 use borrow.Author.Tests.{le-leb, lt-leb, leb-true, eqb-false}
+use Rattle.std.specs.Prelude.{Option, Some, None, Result, Ok, Err}
+use Rattle.fiber_refusal.specs.declared.Refusal.{Refusal}
+use Rattle.fiber_refusal.specs.declared.Refusal.TheVariants.{TlcCut, UnlockCut, LengthZero, ArgsShort, NoDelay, TooManyTlcs, OutputShort, NotWell}
+use Rattle.fiber_witness.specs.declared.witness.WitnessLayout.{WitnessLayout}
+use Rattle.fiber_witness.specs.declared.unlocks.TakenUnlocks.{TakenUnlocks}
+use Rattle.fiber_choice.specs.declared.kinds.NoChoice.{NoChoice}
+use Rattle.fiber_choice.specs.declared.kinds.NoChoice.TheVariants as NoChoiceCase
+use Rattle.fiber_choice.specs.Answered.{Answer, decided, waiting, refused, Ready, begins, stops_waiting, stops}
 use Rattle.fiber_bytes.proofs.CaseLaws.{by_each}
 use Rattle.fiber_bytes.specs.Bytes.{part}
 use Rattle.fiber_bytes.proofs.BytesLaws.{part_behind, one_less}
 use Rattle.fiber_since.specs.declared.epoch.Epoch.{Epoch}
-use Rattle.fiber_since.specs.declared.epoch.Scaled.{Scaled}
-use Rattle.fiber_since.specs.declared.epoch.Scaled.TheVariants as ScaledCase
 use Rattle.fiber_since.specs.Epoch.{within_bits, scaled}
 use Rattle.fiber_since.specs.inner.Bounds as BoundsCase
 use Rattle.fiber_since.proofs.EpochLaws.{within}
-use Rattle.fiber_witness.specs.declared.witness.WitnessRead.TheVariants as ReadCase
-use Rattle.fiber_witness.specs.declared.unlocks.UnlocksAnswer.{UnlocksAnswer}
-use Rattle.fiber_witness.specs.declared.unlocks.UnlocksAnswer.TheVariants as UnlocksCase
 use Rattle.fiber_witness.specs.Witness.{record_len, chunks, member, places, read_witness}
 use Rattle.fiber_witness.specs.Update.{none, take_unlocks, keep, share_left, standing, by_read, unlocked}
 use Rattle.fiber_witness.specs.inner.Strided.{behind_tlcs}
-use Rattle.fiber_witness.specs.inner.Marks.{Marks, marked, TakesAs}
+use Rattle.fiber_witness.specs.inner.Marks.{Marks, marked}
+use Rattle.fiber_witness.specs.inner.Taking.{TakesAs}
 use Rattle.fiber_witness.proofs.WitnessLaws.{records_length}
 use Rattle.fiber_witness.proofs.UpdateLaws.{unlocks_come, All, takes_all, takes_faulty, marks_marked, keep_marked, keep_cons}
 use Rattle.fiber_choice.specs.declared.kinds.Side.{Side}
@@ -36,20 +40,12 @@ use Rattle.fiber_choice.specs.declared.kinds.Choice.{Choice}
 use Rattle.fiber_choice.specs.declared.kinds.Choice.TheVariants as ChoiceCase
 use Rattle.fiber_choice.specs.declared.kinds.Key.{Key}
 use Rattle.fiber_choice.specs.declared.kinds.Key.TheVariants as KeyCase
-use Rattle.fiber_choice.specs.declared.kinds.Delay.{Delay}
-use Rattle.fiber_choice.specs.declared.kinds.Delay.TheVariants as DelayCase
 use Rattle.fiber_choice.specs.declared.kinds.Dues.{Dues}
 use Rattle.fiber_choice.specs.declared.kinds.Stage.TheVariants as StageCase
 use Rattle.fiber_choice.specs.declared.kinds.Wait.{Wait}
 use Rattle.fiber_choice.specs.declared.kinds.Wait.TheVariants as WaitCase
-use Rattle.fiber_choice.specs.declared.kinds.Pick.{Pick}
-use Rattle.fiber_choice.specs.declared.kinds.Pick.TheVariants as PickCase
-use Rattle.fiber_choice.specs.declared.kinds.Ready.{Ready}
-use Rattle.fiber_choice.specs.declared.kinds.Ready.TheVariants as ReadyCase
 use Rattle.fiber_choice.specs.declared.kinds.Step.{Step}
 use Rattle.fiber_choice.specs.declared.kinds.Step.TheVariants as StepCase
-use Rattle.fiber_choice.specs.declared.kinds.ChoiceAnswer.{ChoiceAnswer}
-use Rattle.fiber_choice.specs.declared.kinds.ChoiceAnswer.TheVariants as AnswerCase
 use Rattle.fiber_choice.specs.Entries.{same, same_lists, entries, settlement_len, tracked_len, tracked_records}
 use Rattle.fiber_choice.specs.Request.{SettlementData, Request, settlement_tlcs, tracked_tlcs, pairs}
 use Rattle.fiber_choice.specs.FirstRecords.{hash_of, share_bytes, first_records, first_remote, first_local}
@@ -60,8 +56,9 @@ use Rattle.fiber_types.specs.Records.{Outcome, Gives}
 use Rattle.fiber_choice.specs.HandedOut.{handed_out}
 use Rattle.fiber_choice.specs.Settlements.{walked_by, wait_by, or_wait, if_ready, later_ready, is_last, later_choice, unsettled, later_place, later_state, later_of, later, first_delay, first_place, first_thirds, lengths_zero, first_ready, first}
 use Rattle.fiber_choice.specs.inner.Plan.{Reaches, Within, Below}
-use Rattle.fiber_choice.specs.inner.Noting.{pick_of}
-use Rattle.fiber_choice.proofs.EntriesLaws.{lists_short, lists_length, record_at, tracked_length, entries_length, entry_room, entries_cons, lists_equal}
+use Rattle.fiber_choice.specs.declared.kinds.Chosen.{Chosen}
+use Rattle.fiber_choice.specs.inner.Noting.{pick_of, Pick, picked, unpicked}
+use Rattle.fiber_choice.proofs.EntriesLaws.{lists_short, lists_length, record_at, tracked_length, entries_length, entry_left, lists_equal}
 use Rattle.fiber_choice.proofs.FirstRecordsLaws.{firsts_count}
 use Rattle.fiber_choice.proofs.WalkLaws.{StepWithin, walked_within, reaches_later, reaches_first}
 use Rattle.fiber_choice.proofs.WaitsLaws.{Unchosen}
@@ -69,44 +66,39 @@ use Rattle.fiber_choice.proofs.WaitsLaws.{Unchosen}
 -- ---- what a settlement comes to
 
 -- what is the same outcome leaves the same
-pub leaves_as : (x y : Outcome ChoiceAnswer) → x ≡ y → (r : ChoiceAnswer) (o : List ℕ) → Gives x r o → Gives y r o
+pub leaves_as : (x y : Outcome Answer) → x ≡ y → (r : Answer) (o : List ℕ) → Gives x r o → Gives y r o
 leaves_as x y e r o w = rw (← e) w
 
-module _ (r : Ready) (out : List ℕ) (o : Outcome ChoiceAnswer) where
-  -- a wait before the walk
-  pub ready_wait : (wait : Wait) → r ≡ ReadyCase.Wait wait → Gives (if_ready r out o) (AnswerCase.Wait wait) out
+module _ (r : Ready) (out : List ℕ) (o : Outcome Answer) where
+  -- what stands against the walk
+  pub ready_stops : (why : NoChoice) → r ≡ Err why → Gives (if_ready r out o) (Err why) out
   unfolding if_ready
-  ready_wait wait e = (rw e, rw e)
-
-  -- a refusal
-  pub ready_refused : (number : ℕ) → r ≡ ReadyCase.Refused number → Gives (if_ready r out o) (AnswerCase.Refused number 0) out
-  unfolding if_ready
-  ready_refused number e = (rw e, rw e)
+  ready_stops why e = (rw e, rw e)
 
   -- neither
-  pub ready_yes : r ≡ ReadyCase.Yes → o ≡ if_ready r out o
+  pub ready_yes : r ≡ begins → o ≡ if_ready r out o
   unfolding if_ready
   ready_yes e = rw e
 
-module _ (q : Request) (remote local : List ℕ) (last : Bool) (delay : Choice → Delay) (place : Choice → ℕ) (wait : Wait) (out : List ℕ) (s : Step) where
+module _ (q : Request) (remote local : List ℕ) (last : Bool) (delay : Choice → Option Epoch) (place : Choice → ℕ) (wait : Wait) (out : List ℕ) (s : Step) where
   -- The wait is answered where nothing is chosen, and only there: what is chosen does not depend on which of the rows 22 to 25 it is.
-  pub nothing_chosen : (pending : ℕ) → s ≡ StepCase.Pending pending → Gives (or_wait q remote local last delay place wait out s) (AnswerCase.Wait wait) out
+  pub nothing_chosen : (pending : ℕ) → s ≡ StepCase.Pending pending → Gives (or_wait q remote local last delay place wait out s) (waiting wait) out
   unfolding or_wait
   nothing_chosen pending e = (rw e, rw e)
 
-  pub only_unchosen : (w : Wait) → (or_wait q remote local last delay place wait out s).answer ≡ AnswerCase.Wait w → (Unchosen s) × (w ≡ wait)
+  pub only_unchosen : (w : Wait) → (or_wait q remote local last delay place wait out s).answer ≡ waiting w → (Unchosen s) × (w ≡ wait)
   unfolding or_wait handed_out
   only_unchosen w = go s
     where
-      No-wait : ChoiceAnswer → Type 0
-      No-wait (AnswerCase.Wait x) = ⊥
-      No-wait (AnswerCase.Chosen d) = Unit {0}
-      No-wait (AnswerCase.Refused number place) = Unit {0}
+      No-wait : Answer → Type 0
+      No-wait (Err (NoChoiceCase.Wait x)) = ⊥
+      No-wait (Ok d) = Unit {0}
+      No-wait (Err (NoChoiceCase.Refused r)) = Unit {0}
 
-      go : (s : Step) → (or_wait q remote local last delay place wait out s).answer ≡ AnswerCase.Wait w → (Unchosen s) × (w ≡ wait)
+      go : (s : Step) → (or_wait q remote local last delay place wait out s).answer ≡ waiting w → (Unchosen s) × (w ≡ wait)
       go (StepCase.Pending pending) = λ e. (tt, cc)
       go (StepCase.Chosen choice key) =
-          by_each (λ (o : Outcome ChoiceAnswer). o.answer ≡ AnswerCase.Wait w → ⊥ × (w ≡ wait)) (leb _ (length out)) _ _ (λ e. absurd (subst No-wait e tt)) (λ e. absurd (subst No-wait e tt))
+          by_each (λ (o : Outcome Answer). o.answer ≡ waiting w → ⊥ × (w ≡ wait)) (leb _ (length out)) _ _ (λ e. absurd (subst No-wait e tt)) (λ e. absurd (subst No-wait e tt))
 
   -- what is chosen
   pub one_chosen : (choice : Choice) (key : Key) → s ≡ StepCase.Chosen choice key
@@ -115,26 +107,30 @@ module _ (q : Request) (remote local : List ℕ) (last : Bool) (delay : Choice �
   one_chosen choice key e = rw e
 
 abbrev Chooses : Pick → Type 0
-Chooses (PickCase.Chosen choice key) = Unit {0}
-Chooses (PickCase.Wait wait) = ⊥
+Chooses (Ok chosen) = Unit {0}
+Chooses (Err wait) = ⊥
 
 -- a choice or a wait, as the code passes it on
 module _ (s : Step) (w : Wait) where
-  pub pick_wait : (x : Wait) → pick_of s w ≡ PickCase.Wait x → (pending : ℕ) × ((s ≡ StepCase.Pending pending) × (w ≡ x))
+  pub pick_wait : (x : Wait) → pick_of s w ≡ unpicked x → (pending : ℕ) × ((s ≡ StepCase.Pending pending) × (w ≡ x))
   unfolding pick_of
   pick_wait x = go s
     where
-      go : (s : Step) → pick_of s w ≡ PickCase.Wait x → (pending : ℕ) × ((s ≡ StepCase.Pending pending) × (w ≡ x))
+      go : (s : Step) → pick_of s w ≡ unpicked x → (pending : ℕ) × ((s ≡ StepCase.Pending pending) × (w ≡ x))
       go (StepCase.Pending pending) e = (pending, (refl, cc))
       go (StepCase.Chosen choice key) e = absurd (subst Chooses e tt)
 
-  pub pick_chosen : (choice : Choice) (key : Key) → pick_of s w ≡ PickCase.Chosen choice key → s ≡ StepCase.Chosen choice key
+  pub pick_chosen : (choice : Choice) (key : Key) → pick_of s w ≡ picked choice key → s ≡ StepCase.Chosen choice key
   unfolding pick_of
   pick_chosen choice key = go s
     where
-      go : (s : Step) → pick_of s w ≡ PickCase.Chosen choice key → s ≡ StepCase.Chosen choice key
+      go : (s : Step) → pick_of s w ≡ picked choice key → s ≡ StepCase.Chosen choice key
       go (StepCase.Pending pending) e = absurd (subst Chooses (sym e) tt)
-      go (StepCase.Chosen x y) e = cc
+      go (StepCase.Chosen x y) e = ap₂ StepCase.Chosen (ap (λ (p : Pick). (of p).choice) e) (ap (λ (p : Pick). (of p).key) e)
+        where
+          of : Pick → Chosen
+          of (Ok c) = c
+          of (Err wait) = record { choice = x; key = y }
 
 -- ---- the records that stand, and the tracked ones
 
@@ -142,58 +138,50 @@ module _ (s : Step) (w : Wait) where
 abbrev stand : ℕ → List ℕ → ℕ → List Bool → ℕ → List (List ℕ)
 stand h w n marks i = keep (marked marks) i (drop i (chunks (record_len h) n (drop 2 w)))
 
--- the tracked ones, from place j on
-abbrev track : ℕ → List ℕ → ℕ → List (List ℕ)
-track h s j = tracked_records (drop j (entries (98 + h) s))
+-- the part of the witness that the code compares is the record
+pub record_differs : (w t : List ℕ) (from size h : ℕ) (b : Bool) → size ≡ 65 + h → b ≡ not (same (take (from + size - from) (drop from w)) (take (length t - 33) (drop 33 t)))
+    → same (part w from (record_len h)) (drop 33 t) ≡ not b
+record_differs w t from size h b e f =
+    let k : from + size - from ≡ record_len h = omega arith in
+    let r : take (length t - 33) (drop 33 t) ≡ drop 33 t = take_all (length t - 33) (drop 33 t) (omega (arith, length-drop 33 t)) in
+    flip _ (f ∙ ap₂ (λ (n : ℕ) (u : List ℕ). not (same (take n (drop from w)) u)) k r)
+  where
+    flip : (x : Bool) → b ≡ not x → x ≡ not b
+    flip true g = sym (ap not g)
+    flip false g = sym (ap not g)
 
--- the part of the witness that the code compares
-pub record_between : (w : List ℕ) (from h : ℕ) → take (from + 65 + h - from) (drop from w) ≡ part w from (record_len h)
-record_between w from h =
-    let e : from + 65 + h - from ≡ record_len h = omega arith in
-    ap (λ (k : ℕ). take k (drop from w)) e
-
--- The loop, at record i of the witness: to compare the rests, from here, gives what comparing all gives.
-pub record Comparing (h : ℕ) (w : List ℕ) (n : ℕ) (marks : List Bool) (s : List ℕ) (whole : Bool) (from at i : ℕ) : Type 0 where
+-- The loop, at record i of the witness, with the tracked TLCs that are left: to compare the rests, from here, gives what comparing all gives.
+pub record Comparing (h : ℕ) (w : List ℕ) (n : ℕ) (marks : List Bool) (s : List ℕ) (whole : Bool) (from : ℕ) (es : List (List ℕ)) (i : ℕ) : Type 0 where
   pub low : i ≤ n
   pub j : ℕ
   pub begins : from ≡ 2 + i * record_len h
-  pub place : at ≡ 33 + j * (98 + h)
-  pub many : j + length (stand h w n marks i) ≡ length s / (98 + h)
-  pub rest : same_lists (stand h w n marks i) (track h s j) ≡ whole
+  pub left : es ≡ drop j (entries (tracked_len h) s)
+  pub rest : same_lists (stand h w n marks i) (tracked_records es) ≡ whole
 
-module _ (h : ℕ) (w : List ℕ) (n : ℕ) (marks : List Bool) (s : List ℕ) (k : ℕ) (e : k ≡ length (standing h w n (marked marks))) where
-  -- another count
-  pub comparing_short : (k ≡ length s / (98 + h) → ⊥) → false ≡ same_lists (standing h w n (marked marks)) (tracked_records (entries (tracked_len h) s))
-  comparing_short ne =
-      let z : tracked_len h ≡ 98 + h = omega arith in
-      lists_short _ _
-      (λ f. ne (e ∙ f ∙ tracked_length (entries (tracked_len h) s) ∙ entries_length (tracked_len h) s ∙ ap (λ (m : ℕ). length s / m) z))
+-- before the first, all are left
+pub comparing_start : (h : ℕ) (w : List ℕ) (n : ℕ) (marks : List Bool) (s : List ℕ) (es : List (List ℕ)) → es ≡ entries (tracked_len h) s
+    → Comparing h w n marks s (same_lists (standing h w n (marked marks)) (tracked_records (entries (tracked_len h) s))) 2 es 0
+unfolding standing
+comparing_start h w n marks s es e = record { low = omega arith; j = 0; begins = omega (arith, zero-mul (record_len h)); left = e; rest = rw e }
 
-  -- before the first, all are left
-  pub comparing_start : k ≡ length s / (98 + h)
-      → Comparing h w n marks s (same_lists (standing h w n (marked marks)) (tracked_records (entries (tracked_len h) s))) 2 33 0
-  unfolding standing
-  comparing_start f =
-      let z : 98 + h ≡ tracked_len h = omega arith in
-      record {
-        low = omega arith;
-        j = 0;
-        begins = omega (arith, zero-mul (record_len h));
-        place = omega (arith, zero-mul (98 + h));
-        many = omega (arith, e, f);
-        rest = ap (λ (m : ℕ). same_lists (stand h w n marks 0) (tracked_records (entries m s))) z;
-      }
-
-module _ (h : ℕ) (w : List ℕ) (n : ℕ) (marks : List Bool) (s : List ℕ) (whole : Bool) (from at i : ℕ) (c : Comparing h w n marks s whole from at i) where
-  -- at the end none is left of either
-  pub comparing_end : n ≤ i → true ≡ whole
-  unfolding keep tracked_records same_lists
-  comparing_end g =
+module _ (h : ℕ) (w : List ℕ) (n : ℕ) (marks : List Bool) (s : List ℕ) (whole : Bool) (from : ℕ) (es : List (List ℕ)) (i : ℕ) (c : Comparing h w n marks s whole from es i) where
+  -- at the end none is left of the witness's
+  comparing_rest : n ≤ i → same_lists [] (tracked_records es) ≡ whole
+  unfolding keep
+  comparing_rest g =
       let a : length (chunks (record_len h) n (drop 2 w)) ≤ i = omega (arith, records_length (record_len h) n (drop 2 w)) in
       let p : drop i (chunks (record_len h) n (drop 2 w)) ≡ [] = drop_of_length-le (chunks (record_len h) n (drop 2 w)) a in
-      let b : length (entries (98 + h) s) ≤ c.j = omega (arith, entries_length (98 + h) s, c.many, ap (λ (l : List (List ℕ)). length (keep (marked marks) i l)) p) in
-      let q : drop c.j (entries (98 + h) s) ≡ [] = drop_of_length-le (entries (98 + h) s) b in
-      rw (p, q) at c.rest
+      rw p at c.rest
+
+  -- nor of the tracked ones
+  pub comparing_end : n ≤ i → es ≡ [] → true ≡ whole
+  unfolding tracked_records same_lists
+  comparing_end g e = rw e at (comparing_rest g)
+
+  -- or one is
+  pub comparing_over : n ≤ i → (t : List ℕ) (ts : List (List ℕ)) → es ≡ t ∷ ts → false ≡ whole
+  unfolding tracked_records same_lists
+  comparing_over g t ts e = rw e at (comparing_rest g)
 
   module _ (g : i < n) where
     -- the record at place i
@@ -220,76 +208,47 @@ module _ (h : ℕ) (w : List ℕ) (n : ℕ) (marks : List Bool) (s : List ℕ) (
     comparing_from f = omega (arith, c.begins, suc-mul i (record_len h), mul-le-mul_right (record_len h) g)
 
     -- a record that is settled is passed
-    pub comparing_gone : get_or marks i false ≡ true → Comparing h w n marks s whole (from + record_len h) at (i + 1)
-    comparing_gone m = record {
-      low = omega arith;
-      j = c.j;
-      begins = next_begins;
-      place = c.place;
-      many = omega (arith, c.many, ap length (stand_cons true m));
-      rest = rw (stand_cons true m) at c.rest;
-    }
+    pub comparing_gone : get_or marks i false ≡ true → Comparing h w n marks s whole (from + record_len h) es (i + 1)
+    comparing_gone m = record { low = omega arith; j = c.j; begins = next_begins; left = c.left; rest = rw (stand_cons true m) at c.rest }
 
     module _ (m : get_or marks i false ≡ false) where
-      -- a TLC is left for it
-      track_left : c.j < length s / (98 + h)
-      track_left = omega (arith, c.many, ap length (stand_cons false m))
+      -- no TLC is left for it
+      pub comparing_short : es ≡ [] → false ≡ whole
+      unfolding tracked_records same_lists
+      comparing_short e = rw (stand_cons false m, e) at c.rest
 
-      -- which is whole
-      pub comparing_at : at + record_len h ≤ length s
-      comparing_at = omega (arith, c.place, entry_room (98 + h) s c.j track_left)
+      module _ (t : List ℕ) (ts : List (List ℕ)) (e : es ≡ t ∷ ts) where
+        -- the two, and the rests
+        compare_cons : (same (part w from (record_len h)) (drop 33 t) && same_lists (stand h w n marks (i + 1)) (tracked_records ts)) ≡ whole
+        unfolding tracked_records same_lists
+        compare_cons = rw (stand_cons false m, e) at c.rest
 
-      -- those that are left, by it
-      track_cons : track h s c.j ≡ part s at (record_len h) ∷ track h s (c.j + 1)
-      unfolding tracked_records
-      track_cons =
-          let z : 98 + h ≡ 33 + record_len h = omega arith in
-          let y : c.j * (98 + h) + 33 ≡ at = omega (arith, c.place) in
-          ap tracked_records (entries_cons (98 + h) s c.j track_left)
-          ∙ ap (λ (r : List ℕ). r ∷ track h s (c.j + 1))
-          (ap (λ (m : ℕ). drop 33 (part s (c.j * (98 + h)) m)) z
-          ∙ part_behind s (c.j * (98 + h)) 33 (record_len h)
-          ∙ ap (λ (m : ℕ). part s m (record_len h)) y)
+        -- they differ
+        pub comparing_differ : same (part w from (record_len h)) (drop 33 t) ≡ false → false ≡ whole
+        comparing_differ f = rw f at compare_cons
 
-      -- the two, and the rests
-      compare_cons : (same (part w from (record_len h)) (part s at (record_len h)) && same_lists (stand h w n marks (i + 1)) (track h s (c.j + 1))) ≡ whole
-      unfolding same_lists
-      compare_cons = rw (stand_cons false m, track_cons) at c.rest
+        -- they are the same
+        pub comparing_same : same (part w from (record_len h)) (drop 33 t) ≡ true → Comparing h w n marks s whole (from + record_len h) ts (i + 1)
+        comparing_same f = record {
+          low = omega arith;
+          j = c.j + 1;
+          begins = next_begins;
+          left = (entry_left (tracked_len h) s c.j es t ts c.left e).rest;
+          rest = rw f at compare_cons;
+        }
 
-      -- they differ
-      pub comparing_differ : same (part w from (record_len h)) (part s at (record_len h)) ≡ false → false ≡ whole
-      comparing_differ e = rw e at compare_cons
-
-      -- they are the same
-      pub comparing_same : same (part w from (record_len h)) (part s at (record_len h)) ≡ true
-          → Comparing h w n marks s whole (from + record_len h) (at + (98 + h)) (i + 1)
-      comparing_same e = record {
-        low = omega arith;
-        j = c.j + 1;
-        begins = next_begins;
-        place = omega (arith, c.place, add-one c.j, suc-mul c.j (98 + h));
-        many = omega (arith, c.many, ap length (stand_cons false m));
-        rest = rw e at compare_cons;
-      }
+        -- the TLC is whole
+        pub comparing_whole : length t ≡ tracked_len h
+        comparing_whole = (entry_left (tracked_len h) s c.j es t ts c.left e).whole
 
 -- ---- where a TLC that stands was
 
--- The loop, at place i of the witness with k that stand before it: to look from here finds what looking at all finds.
-pub record Placing (n place : ℕ) (marks : List Bool) (whole k i : ℕ) : Type 0 where
-  pub low : i ≤ n
-  pub few : k ≤ i
-  pub below : k ≤ place
-  pub rest : get_or (unsettled (marked marks) i (n - i)) (place - k) 0 ≡ whole
-
--- before the first
-pub placing_start : (n place : ℕ) (marks : List Bool) → Placing n place marks (get_or (unsettled (marked marks) 0 n) place 0) 0 0
-placing_start n place marks = record { low = omega arith; few = omega arith; below = omega arith; rest = rw (sub-zero n, sub-zero place) }
-
-module _ (n place : ℕ) (marks : List Bool) (whole k i : ℕ) (c : Placing n place marks whole k i) where
+-- The loop, at place i of the witness, looking for the TLC with so many that stand before it: to look from here finds what looking at all finds.
+module _ (n : ℕ) (marks : List Bool) (whole left i : ℕ) (c : get_or (unsettled (marked marks) i (n - i)) left 0 ≡ whole) where
   -- none stands there
   pub placing_end : n ≤ i → 0 ≡ whole
   unfolding unsettled
-  placing_end h = rw (sub-eq-zero_of_le h) at c.rest
+  placing_end h = rw (sub-eq-zero_of_le h) at c
 
   module _ (h : i < n) where
     -- those that stand, by the mark of place i
@@ -299,26 +258,19 @@ module _ (n place : ℕ) (marks : List Bool) (whole k i : ℕ) (c : Placing n pl
     unsettled_cons b m = rw (one_less n i h, sym (marks_marked marks i) ∙ m)
 
     -- one that is settled is passed
-    pub placing_gone : get_or marks i false ≡ true → Placing n place marks whole k (i + 1)
-    placing_gone m = record { low = omega arith; few = omega (arith, c.few); below = c.below; rest = rw (unsettled_cons true m) at c.rest }
+    pub placing_gone : get_or marks i false ≡ true → get_or (unsettled (marked marks) (i + 1) (n - (i + 1))) left 0 ≡ whole
+    placing_gone m = rw (unsettled_cons true m) at c
 
     module _ (m : get_or marks i false ≡ false) where
       -- it is the one
-      pub placing_found : k ≡ place → i ≡ whole
-      placing_found e =
-          let z : place - k ≡ 0 = omega arith in
-          rw (unsettled_cons false m, z) at c.rest
+      pub placing_found : left ≡ 0 → i ≡ whole
+      placing_found e = rw (unsettled_cons false m, e) at c
 
       -- it stands before the one
-      pub placing_more : (k ≡ place → ⊥) → Placing n place marks whole (k + 1) (i + 1)
+      pub placing_more : (left ≡ 0 → ⊥) → get_or (unsettled (marked marks) (i + 1) (n - (i + 1))) (left - 1) 0 ≡ whole
       placing_more ne =
-          let z : place - k ≡ suc (place - (k + 1)) = omega (arith, c.below) in
-          record {
-            low = omega arith;
-            few = omega (arith, c.few);
-            below = omega (arith, c.below);
-            rest = rw (unsettled_cons false m, z) at c.rest;
-          }
+          let z : left ≡ suc (left - 1) = omega arith in
+          rw (unsettled_cons false m, z) at c
 
 -- no place is behind the last
 unsettled_below : (s : List ℕ) (n i place : ℕ) → get_or (unsettled s i n) place 0 ≤ i + n
@@ -357,7 +309,7 @@ unsettled_marked marks s m = unsettled_same (marked marks) s (λ i. sym (marks_m
 
 module _ (q : Request) (tlcs : List (List ℕ)) (ours : List ℕ) (k : ℕ) (c : k ≡ length tlcs) where
   -- row 12
-  pub later_many : 254 < k → ReadyCase.Refused 12 ≡ later_ready q tlcs ours
+  pub later_many : 254 < k → stops TooManyTlcs ≡ later_ready q tlcs ours
   unfolding later_ready
   later_many f = over _ _ _ (omega (arith, f))
     where
@@ -366,32 +318,31 @@ module _ (q : Request) (tlcs : List (List ℕ)) (ours : List ℕ) (k : ℕ) (c :
 
   module _ (f : k ≤ 254) where
     -- row 20
-    pub later_other : same_lists tlcs (tracked_records (tracked_tlcs q)) ≡ false → ReadyCase.Wait WaitCase.ListDiffers ≡ later_ready q tlcs ours
+    pub later_other : same_lists tlcs (tracked_records (tracked_tlcs q)) ≡ false → stops_waiting WaitCase.ListDiffers ≡ later_ready q tlcs ours
     unfolding later_ready
     later_other g = rw (← c, le-leb k 254 f, g)
 
     module _ (g : same_lists tlcs (tracked_records (tracked_tlcs q)) ≡ true) where
       -- row 21
-      pub later_key : same (take 20 ours) (hash_of q.settlement.local_key) ≡ false → ReadyCase.Wait WaitCase.NotOurShare ≡ later_ready q tlcs ours
+      pub later_key : same (take 20 ours) (hash_of q.settlement.local_key) ≡ false → stops_waiting WaitCase.NotOurShare ≡ later_ready q tlcs ours
       unfolding later_ready
       later_key d = rw (← c, le-leb k 254 f, g, d)
 
       -- none of them
-      pub later_yes : same (take 20 ours) (hash_of q.settlement.local_key) ≡ true → ReadyCase.Yes ≡ later_ready q tlcs ours
+      pub later_yes : same (take 20 ours) (hash_of q.settlement.local_key) ≡ true → begins ≡ later_ready q tlcs ours
       unfolding later_ready
       later_yes d = rw (← c, le-leb k 254 f, g, d)
 
 -- a row before the walk
 abbrev No : Ready → Type 0
-No ReadyCase.Yes = ⊥
-No (ReadyCase.Wait number) = Unit {0}
-No (ReadyCase.Refused number) = Unit {0}
+No (Ok go) = ⊥
+No (Err why) = Unit {0}
 
 -- a wait before the walk is one by row 20 or 21
 abbrev pub Early : Ready → Type 0
-Early ReadyCase.Yes = Unit {0}
-Early (ReadyCase.Wait wait) = wait_number wait < 22
-Early (ReadyCase.Refused number) = Unit {0}
+Early (Ok go) = Unit {0}
+Early (Err (NoChoiceCase.Wait wait)) = wait_number wait < 22
+Early (Err (NoChoiceCase.Refused r)) = Unit {0}
 
 pub later_ready_early : (q : Request) (tlcs : List (List ℕ)) (ours : List ℕ) → Early (later_ready q tlcs ours)
 unfolding later_ready wait_number
@@ -408,13 +359,13 @@ first_ready_early q full =
     (by_each Early (same_lists (first_records q.h q.for_remote (settlement_tlcs q)) (tracked_records (tracked_tlcs q))) _ _ tt (omega arith)) tt)
 
 -- where the walk may begin, few stand, and they are the tracked ones
-pub later_ready_lem : (q : Request) (tlcs : List (List ℕ)) (ours : List ℕ) → later_ready q tlcs ours ≡ ReadyCase.Yes
+pub later_ready_lem : (q : Request) (tlcs : List (List ℕ)) (ours : List ℕ) → later_ready q tlcs ours ≡ begins
     → (length tlcs ≤ 254) × (same_lists tlcs (tracked_records (tracked_tlcs q)) ≡ true)
 unfolding later_ready
 later_ready_lem q tlcs ours = go (leb (length tlcs) 254) (same_lists tlcs (tracked_records (tracked_tlcs q))) (same (take 20 ours) (hash_of q.settlement.local_key)) refl
   where
     go : (x y z : Bool) → leb (length tlcs) 254 ≡ x
-        → cond x (cond y (cond z ReadyCase.Yes (ReadyCase.Wait WaitCase.NotOurShare)) (ReadyCase.Wait WaitCase.ListDiffers)) (ReadyCase.Refused 12) ≡ ReadyCase.Yes
+        → cond x (cond y (cond z begins (stops_waiting WaitCase.NotOurShare)) (stops_waiting WaitCase.ListDiffers)) (stops TooManyTlcs) ≡ begins
         → (length tlcs ≤ 254) × (y ≡ true)
     go true true z p e = (leb-true (length tlcs) 254 p, refl)
     go true false z p e = absurd (subst No e tt)
@@ -437,7 +388,7 @@ module _ (q : Request) (last : Bool) where
   choice_walk g = rw g
 
   -- as the code passes them on
-  pub choice_picks_share : (side : Side) (w : Wait) → side ≡ our_side q.for_remote → last ≡ true → PickCase.Chosen (ChoiceCase.Share side) KeyCase.Settlement ≡ pick_of (later_choice q last) w
+  pub choice_picks_share : (side : Side) (w : Wait) → side ≡ our_side q.for_remote → last ≡ true → picked (ChoiceCase.Share side) KeyCase.Settlement ≡ pick_of (later_choice q last) w
   unfolding pick_of
   choice_picks_share side w e g = rw (← choice_share g, e)
 
@@ -459,18 +410,15 @@ by_flag b x y z (inr p) = rw p.0 p.1
 -- of a state that the witness's unlocks leave, with what the code finds of it
 module _ (q : Request) (out : List ℕ) (tlcs : List (List ℕ)) (firsts remote local ours other : List ℕ)
     (p : ours ≡ cond q.for_remote local remote) (o : other ≡ cond q.for_remote remote local) (last : Bool) (l : last ≡ is_last other) (r : Ready) (e : r ≡ later_ready q tlcs ours) where
-  state_as : if_ready r out (or_wait q remote local last (λ c. DelayCase.None) (later_place q.h firsts) (wait_by q StageCase.Later) out (later_choice q last)) ≡ later_state q out tlcs firsts remote local
+  state_as : if_ready r out (or_wait q remote local last (λ c. None) (later_place q.h firsts) (wait_by q StageCase.Later) out (later_choice q last)) ≡ later_state q out tlcs firsts remote local
   unfolding later_state
   state_as = rw (e, p, l, o)
 
   -- rows 12, 20 and 21
-  pub state_refused : (number : ℕ) → r ≡ ReadyCase.Refused number → Gives (later_state q out tlcs firsts remote local) (AnswerCase.Refused number 0) out
-  state_refused number f = leaves_as _ _ state_as _ _ (ready_refused r out _ number f)
+  pub state_stops : (why : NoChoice) → r ≡ Err why → Gives (later_state q out tlcs firsts remote local) (Err why) out
+  state_stops why f = leaves_as _ _ state_as _ _ (ready_stops r out _ why f)
 
-  pub state_wait : (wait : Wait) → r ≡ ReadyCase.Wait wait → Gives (later_state q out tlcs firsts remote local) (AnswerCase.Wait wait) out
-  state_wait wait f = leaves_as _ _ state_as _ _ (ready_wait r out _ wait f)
-
-  module _ (y : r ≡ ReadyCase.Yes) where
+  module _ (y : r ≡ begins) where
     -- no more are tracked than stand
     pub state_few : length (tracked_tlcs q) ≤ 254
     state_few =
@@ -479,62 +427,63 @@ module _ (q : Request) (out : List ℕ) (tlcs : List (List ℕ)) (firsts remote 
 
     module _ (s : Pick) (f : s ≡ pick_of (later_choice q last) (wait_by q StageCase.Later)) where
       -- rows 23 to 25
-      pub state_nothing : (wait : Wait) → s ≡ PickCase.Wait wait → Gives (later_state q out tlcs firsts remote local) (AnswerCase.Wait wait) out
+      pub state_nothing : (wait : Wait) → s ≡ unpicked wait → Gives (later_state q out tlcs firsts remote local) (waiting wait) out
       state_nothing wait g =
           let p = pick_wait (later_choice q last) (wait_by q StageCase.Later) wait (sym f ∙ g) in
           rw (← p.1.1)
           (leaves_as _ _ (ready_yes r out _ y ∙ state_as) _ _
-          (nothing_chosen q remote local last (λ c. DelayCase.None) (later_place q.h firsts) (wait_by q StageCase.Later) out (later_choice q last) p.0 p.1.0))
+          (nothing_chosen q remote local last (λ c. None) (later_place q.h firsts) (wait_by q StageCase.Later) out (later_choice q last) p.0 p.1.0))
 
-      module _ (choice : Choice) (key : Key) (g : s ≡ PickCase.Chosen choice key) where
-        picked : later_choice q last ≡ StepCase.Chosen choice key
-        picked = pick_chosen (later_choice q last) (wait_by q StageCase.Later) choice key (sym f ∙ g)
+      module _ (choice : Choice) (key : Key) (g : s ≡ picked choice key) where
+        state_picked : later_choice q last ≡ StepCase.Chosen choice key
+        state_picked = pick_chosen (later_choice q last) (wait_by q StageCase.Later) choice key (sym f ∙ g)
 
         pub state_within : Within (length (tracked_tlcs q)) (length (pairs q)) choice
-        state_within = (subst (StepWithin (length (tracked_tlcs q)) (length (settlement_tlcs q)) (length (pairs q))) picked (choice_within q last)).0
+        state_within = (subst (StepWithin (length (tracked_tlcs q)) (length (settlement_tlcs q)) (length (pairs q))) state_picked (choice_within q last)).0
 
         -- what is handed out
-        pub state_chosen : (place : ℕ) → place ≡ later_place q.h firsts choice → (a : ChoiceAnswer) (after : List ℕ)
-            → Gives (handed_out q.h q.args (tracked_tlcs q) (pairs q) remote local last choice key DelayCase.None place out) a after
+        pub state_chosen : (place : ℕ) → place ≡ later_place q.h firsts choice → (a : Answer) (after : List ℕ)
+            → Gives (handed_out q.h q.args (tracked_tlcs q) (pairs q) remote local last choice key None place out) a after
             → Gives (later_state q out tlcs firsts remote local) a after
         state_chosen place k a after w =
-            leaves_as _ _ (one_chosen q remote local last (λ c. DelayCase.None) (later_place q.h firsts) (wait_by q StageCase.Later) out (later_choice q last) choice key picked ∙ ready_yes r out _ y ∙ state_as) a after (rw k at w)
+            leaves_as _ _ (one_chosen q remote local last (λ c. None) (later_place q.h firsts) (wait_by q StageCase.Later) out (later_choice q last) choice key state_picked ∙ ready_yes r out _ y ∙ state_as) a after (rw k at w)
 
 module _ (q : Request) (w out : List ℕ) where
   -- a witness that is not read
-  pub later_refused : (k p : ℕ) → read_witness q.h w ≡ ReadCase.Refused k p → Gives (later q w out) (AnswerCase.Refused k p) out
+  pub later_refused : (r : Refusal) → read_witness q.h w ≡ Err r → Gives (later q w out) (refused r) out
   unfolding later later_of unlocked by_read
-  later_refused k p e = (rw e, rw e)
+  later_refused r e = (rw e, rw e)
 
   -- one that is read whole
-  pub later_whole : (n k share_place start : ℕ) → read_witness q.h w ≡ ReadCase.Whole n k share_place start
-      → later_of q w out (take_unlocks n share_place w none (places w start)) ≡ later q w out
+  pub later_whole : (l : WitnessLayout) → read_witness q.h w ≡ Ok l
+      → later_of q w out (take_unlocks l.n l.share_place w none (places w l.first_unlock)) ≡ later q w out
   unfolding later unlocked by_read
-  later_whole n k share_place start e = rw e
+  later_whole l e = rw e
 
   -- with the answer of `take_unlocks`
-  module _ (n share_place start : ℕ) (v : UnlocksAnswer) (marks : List Bool) (remote local : Bool)
-      (j : TakesAs (take_unlocks n share_place w none (places w start)) v marks remote local) where
+  module _ (n share_place start : ℕ) where
     -- row 5 or 6
-    pub later_faulty : (k p : ℕ) → v ≡ UnlocksCase.Refused k p → Gives (later_of q w out (take_unlocks n share_place w none (places w start))) (AnswerCase.Refused k p) out
+    pub later_faulty : (r : Refusal) → TakesAs (take_unlocks n share_place w none (places w start)) (Err r)
+        → Gives (later_of q w out (take_unlocks n share_place w none (places w start))) (refused r) out
     unfolding later_of
-    later_faulty k p e = let f = takes_faulty v marks remote local (unlocks_come n share_place w none (places w start)) j k p e in (rw f, rw f)
+    later_faulty r j = let f = takes_faulty r (unlocks_come n share_place w none (places w start)) j in (rw f, rw f)
 
     -- every unlock is taken, and the marks say what was settled
-    pub later_fine : (x y : List ℕ) → v ≡ UnlocksCase.Fine → x ≡ share_left remote (part w share_place 36) → y ≡ share_left local (part w (share_place + 36) 36)
-        → later_state q out (standing q.h w n (marked marks)) (unsettled (marked marks) 0 n) x y ≡ later_of q w out (take_unlocks n share_place w none (places w start))
+    pub later_fine : (v : TakenUnlocks) → TakesAs (take_unlocks n share_place w none (places w start)) (Ok v)
+        → (x y : List ℕ) → x ≡ share_left v.remote (part w share_place 36) → y ≡ share_left v.local (part w (share_place + 36) 36)
+        → later_state q out (standing q.h w n (marked v.settled)) (unsettled (marked v.settled) 0 n) x y ≡ later_of q w out (take_unlocks n share_place w none (places w start))
     unfolding later_of standing
-    later_fine x y e f g = go (takes_all v marks remote local (unlocks_come n share_place w none (places w start)) j e)
+    later_fine v j x y f g = go (takes_all v (unlocks_come n share_place w none (places w start)) j)
       where
-        go : All n share_place marks remote local (take_unlocks n share_place w none (places w start))
-            → later_state q out (standing q.h w n (marked marks)) (unsettled (marked marks) 0 n) x y ≡ later_of q w out (take_unlocks n share_place w none (places w start))
+        go : All n share_place v.settled v.remote v.local (take_unlocks n share_place w none (places w start))
+            → later_state q out (standing q.h w n (marked v.settled)) (unsettled (marked v.settled) 0 n) x y ≡ later_of q w out (take_unlocks n share_place w none (places w start))
         go t =
             rw (
               t.is,
               f,
               g,
-              keep_marked marks t.taken.settled t.says 0 (chunks (record_len q.h) n (drop 2 w)),
-              unsettled_marked marks t.taken.settled t.says 0 n,
+              keep_marked v.settled t.taken.settled t.says 0 (chunks (record_len q.h) n (drop 2 w)),
+              unsettled_marked v.settled t.taken.settled t.says 0 n,
               t.remote_is,
               t.local_is,
             )
@@ -577,13 +526,13 @@ same_many h b us ts s e f = sym (firsts_count h b us) ∙ lists_length _ _ (sym 
 
 module _ (q : Request) (full : Epoch) (b : Bool) (e : b ≡ lengths_zero q.header q.current full) where
   -- row 7
-  pub first_zero : b ≡ true → ReadyCase.Refused 7 ≡ first_ready q full
+  pub first_zero : b ≡ true → stops LengthZero ≡ first_ready q full
   unfolding first_ready
   first_zero f = rw (← e, f)
 
   module _ (f : b ≡ false) where
     -- row 12
-    pub first_many : 254 < length q.settlement.tlcs / 124 → ReadyCase.Refused 12 ≡ first_ready q full
+    pub first_many : 254 < length q.settlement.tlcs / 124 → stops TooManyTlcs ≡ first_ready q full
     unfolding first_ready
     first_many h =
         let z : leb (length (settlement_tlcs q)) 254 ≡ false = lt-leb (length (settlement_tlcs q)) 254 (omega (arith, entries_length settlement_len q.settlement.tlcs)) in
@@ -594,12 +543,12 @@ module _ (q : Request) (full : Epoch) (b : Bool) (e : b ≡ lengths_zero q.heade
       few = le-leb (length (settlement_tlcs q)) 254 (omega (arith, entries_length settlement_len q.settlement.tlcs))
 
       -- row 20
-      pub first_other : s ≡ false → ReadyCase.Wait WaitCase.ListDiffers ≡ first_ready q full
+      pub first_other : s ≡ false → stops_waiting WaitCase.ListDiffers ≡ first_ready q full
       unfolding first_ready
       first_other k = rw (← e, f, few, ← g, k)
 
       -- none of them
-      pub first_yes : s ≡ true → ReadyCase.Yes ≡ first_ready q full
+      pub first_yes : s ≡ true → begins ≡ first_ready q full
       unfolding first_ready
       first_yes k = rw (← e, f, few, ← g, k)
 
@@ -621,13 +570,13 @@ pub record FirstReady (q : Request) (full : Epoch) : Type 0 where
   pub few : length (settlement_tlcs q) ≤ 254
   pub many : length (settlement_tlcs q) ≡ length (tracked_tlcs q)
 
-pub first_ready_lem : (q : Request) (full : Epoch) → first_ready q full ≡ ReadyCase.Yes → FirstReady q full
+pub first_ready_lem : (q : Request) (full : Epoch) → first_ready q full ≡ begins → FirstReady q full
 unfolding first_ready
 first_ready_lem q full = go (lengths_zero q.header q.current full) (leb (length (settlement_tlcs q)) 254) (same_lists (first_records q.h q.for_remote (settlement_tlcs q)) (tracked_records (tracked_tlcs q))) refl refl refl
   where
     go : (x y z : Bool) → lengths_zero q.header q.current full ≡ x → leb (length (settlement_tlcs q)) 254 ≡ y
         → same_lists (first_records q.h q.for_remote (settlement_tlcs q)) (tracked_records (tracked_tlcs q)) ≡ z
-        → cond x (ReadyCase.Refused 7) (cond y (cond z ReadyCase.Yes (ReadyCase.Wait WaitCase.ListDiffers)) (ReadyCase.Refused 12)) ≡ ReadyCase.Yes → FirstReady q full
+        → cond x (stops LengthZero) (cond y (cond z begins (stops_waiting WaitCase.ListDiffers)) (stops TooManyTlcs)) ≡ begins → FirstReady q full
     go true y z a b c e = absurd (subst No e tt)
     go false false z a b c e = absurd (subst No e tt)
     go false true false a b c e = absurd (subst No e tt)
@@ -644,16 +593,12 @@ ready_within q full r a b c = (within q.header a r.some.0, (within q.current b r
 
 module _ (q : Request) (full : Epoch) (out : List ℕ) (r : Ready) (e : r ≡ first_ready q full) where
   -- rows 7, 12 and 20
-  pub first_refused : (number : ℕ) → r ≡ ReadyCase.Refused number → Gives (first q full out) (AnswerCase.Refused number 0) out
+  pub first_stops : (why : NoChoice) → r ≡ Err why → Gives (first q full out) (Err why) out
   unfolding first
-  first_refused number f = ready_refused (first_ready q full) out _ number (sym e ∙ f)
-
-  pub first_wait : (wait : Wait) → r ≡ ReadyCase.Wait wait → Gives (first q full out) (AnswerCase.Wait wait) out
-  unfolding first
-  first_wait wait f = ready_wait (first_ready q full) out _ wait (sym e ∙ f)
+  first_stops why f = ready_stops (first_ready q full) out _ why (sym e ∙ f)
 
   -- none of them
-  pub first_begins : r ≡ ReadyCase.Yes → first_thirds q out full (scaled full 1 3) (scaled full 2 3) ≡ first q full out
+  pub first_begins : r ≡ begins → first_thirds q out full (scaled full 1 3) (scaled full 2 3) ≡ first q full out
   unfolding first
   first_begins f = ready_yes (first_ready q full) out _ (sym e ∙ f)
 
@@ -669,11 +614,11 @@ unfolding first_local
 local_by b d r e = e
 
 -- by the thirds of the delay, with what the code finds of them
-module _ (q : Request) (out : List ℕ) (full third two : Epoch) (x y : Scaled) (ex : x ≡ scaled full 1 3) (fx : x ≡ ScaledCase.Epoch third) (ey : y ≡ scaled full 2 3) (fy : y ≡ ScaledCase.Epoch two)
+module _ (q : Request) (out : List ℕ) (full third two : Epoch) (x y : Result Epoch Refusal) (ex : x ≡ scaled full 1 3) (fx : x ≡ Ok third) (ey : y ≡ scaled full 2 3) (fy : y ≡ Ok two)
     (d : Dues) (ed : d ≡ dues_by q.header third two full q.current) (s : Pick) (es : s ≡ pick_of (walked_by q (StageCase.First d)) (wait_by q (StageCase.First d))) where
   -- the delay that goes with a choice
-  abbrev scaled_delay : Choice → Delay
-  scaled_delay choice = DelayCase.Epoch (first_delay third two full choice)
+  abbrev scaled_delay : Choice → Option Epoch
+  scaled_delay choice = Some (first_delay third two full choice)
 
   abbrev remotely : List ℕ
   remotely = first_remote q.for_remote q.settlement
@@ -693,12 +638,12 @@ module _ (q : Request) (out : List ℕ) (full third two : Epoch) (x y : Scaled) 
   thirds_as = rw (← ex, fx, ← ey, fy, ← ed)
 
   -- rows 22 to 25
-  pub thirds_nothing : (wait : Wait) → s ≡ PickCase.Wait wait → Gives (first_thirds q out full (scaled full 1 3) (scaled full 2 3)) (AnswerCase.Wait wait) out
+  pub thirds_nothing : (wait : Wait) → s ≡ unpicked wait → Gives (first_thirds q out full (scaled full 1 3) (scaled full 2 3)) (waiting wait) out
   thirds_nothing wait g =
       let p = pick_wait walks waits wait (sym es ∙ g) in
       rw (← p.1.1) (leaves_as _ _ thirds_as _ _ (nothing_chosen q remotely locally false scaled_delay (first_place q.h) waits out walks p.0 p.1.0))
 
-  module _ (choice : Choice) (key : Key) (g : s ≡ PickCase.Chosen choice key) where
+  module _ (choice : Choice) (key : Key) (g : s ≡ picked choice key) where
     thirds_picked : walks ≡ StepCase.Chosen choice key
     thirds_picked = pick_chosen walks waits choice key (sym es ∙ g)
 
@@ -710,8 +655,8 @@ module _ (q : Request) (out : List ℕ) (full third two : Epoch) (x y : Scaled) 
 
     -- what is handed out
     pub thirds_chosen : (remote local : List ℕ) (delay : Epoch) (place : ℕ) → remote ≡ first_remote q.for_remote q.settlement → local ≡ first_local q.for_remote q.settlement
-        → delay ≡ first_delay third two full choice → place ≡ first_place q.h choice → (a : ChoiceAnswer) (after : List ℕ)
-        → Gives (handed_out q.h q.args (tracked_tlcs q) (pairs q) remote local false choice key (DelayCase.Epoch delay) place out) a after
+        → delay ≡ first_delay third two full choice → place ≡ first_place q.h choice → (a : Answer) (after : List ℕ)
+        → Gives (handed_out q.h q.args (tracked_tlcs q) (pairs q) remote local false choice key (Some delay) place out) a after
         → Gives (first_thirds q out full (scaled full 1 3) (scaled full 2 3)) a after
     thirds_chosen remote local delay place er el ed ep a after w =
         leaves_as _ _ (one_chosen q remotely locally false scaled_delay (first_place q.h) waits out walks choice key thirds_picked ∙ thirds_as) a after (rw (er, el, ed, ep) at w)
@@ -758,11 +703,11 @@ standing_at h w n s k g =
 -- ---- before a first settlement's walk
 
 -- where it may begin, the built records are the tracked ones
-pub first_built : (q : Request) (full : Epoch) → first_ready q full ≡ ReadyCase.Yes → first_records q.h q.for_remote (settlement_tlcs q) ≡ tracked_records (tracked_tlcs q)
+pub first_built : (q : Request) (full : Epoch) → first_ready q full ≡ begins → first_records q.h q.for_remote (settlement_tlcs q) ≡ tracked_records (tracked_tlcs q)
 unfolding first_ready
 first_built q full r = lists_equal _ _ (go (lengths_zero q.header q.current full) (leb (length (settlement_tlcs q)) 254) _ r)
   where
-    go : (x y z : Bool) → cond x (ReadyCase.Refused 7) (cond y (cond z ReadyCase.Yes (ReadyCase.Wait WaitCase.ListDiffers)) (ReadyCase.Refused 12)) ≡ ReadyCase.Yes → z ≡ true
+    go : (x y z : Bool) → cond x (stops LengthZero) (cond y (cond z begins (stops_waiting WaitCase.ListDiffers)) (stops TooManyTlcs)) ≡ begins → z ≡ true
     go x y true e = refl
     go true y false e = let z : ◌≡◌ {A = ℕ} 0 1 = cc in absurd (omega arith)
     go false true false e = let z : ◌≡◌ {A = ℕ} 0 1 = cc in absurd (omega arith)

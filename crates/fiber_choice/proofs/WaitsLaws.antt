@@ -9,13 +9,12 @@ use mathlib.Core.Logic.{◌⊎◌, inl, inr, ⊎_elim}
 use lib.Dec.{eqb, ltb}
 use lib.ListN.{length, get_or}
 use borrow.Author.Tests.{eq-eqb, ne_eqb, lt-ltb, le-ltb}
+use Rattle.std.specs.Prelude.{Option, Some, None}
 use Rattle.fiber_bytes.proofs.CaseLaws.{by_each, by_test₂}
 use Rattle.fiber_choice.specs.declared.kinds.Cause.{Cause}
 use Rattle.fiber_choice.specs.declared.kinds.Cause.TheVariants as CauseCase
 use Rattle.fiber_choice.specs.declared.kinds.Wait.{Wait}
 use Rattle.fiber_choice.specs.declared.kinds.Wait.TheVariants as WaitCase
-use Rattle.fiber_choice.specs.declared.kinds.Found.{Found}
-use Rattle.fiber_choice.specs.declared.kinds.Found.TheVariants as FoundCase
 use Rattle.fiber_choice.specs.declared.kinds.Dues.{Dues}
 use Rattle.fiber_choice.specs.declared.kinds.Stage.{Stage}
 use Rattle.fiber_choice.specs.declared.kinds.Stage.TheVariants as StageCase
@@ -260,9 +259,9 @@ module _ (time place count : ℕ) where
       (by_each Stays d.two_thirds _ _ (stays_timeout _ key) (stays_passed CauseCase.NotDue))
       (by_each Stays d.third _ _ (go (counting_pair ps t)) (stays_passed CauseCase.NotDue))
     where
-      go : (p : Found) → Stays (by_pair d.full (expiry_ms s) key p)
-      go (FoundCase.At pair_place) = stays_ready pair_place key
-      go FoundCase.None = rw f (stays_passed CauseCase.NoPreimage)
+      go : (p : Option ℕ) → Stays (by_pair d.full (expiry_ms s) key p)
+      go (Some pair_place) = stays_ready pair_place key
+      go None = rw f (stays_passed CauseCase.NoPreimage)
 
   pub share_stays : (h : ℕ) (for_remote : Bool) (tlcs ps : List (List ℕ)) (stage : Stage) (key : ℕ) (t : List ℕ) → may_share stage ≡ false → Stays (verdict h for_remote tlcs ps stage key t)
   unfolding may_share verdict
@@ -274,14 +273,9 @@ module _ (time place count : ℕ) where
 cause_one : {x y : Cause} → still x ≡ still y → x ≡ y
 cause_one e = cc
 
-module _ (c : Cause) where
-  -- by an equal verdict
-  pub pends_as : (v v' : Verdict) → v ≡ v' → PendsFor c v → PendsFor c v'
-  pends_as v v' e f = rw e at f
-
-  pub pends_passed : PendsFor c (passed c)
-  unfolding status_by
-  pends_passed time cause e = cause_one e
+pub pends_passed : (c : Cause) → PendsFor c (passed c)
+unfolding status_by
+pends_passed c time cause e = cause_one e
 
 pub pends_timeout : (ms key : ℕ) → PendsFor CauseCase.NotExpired (timeout ms key)
 unfolding status_by
@@ -289,11 +283,11 @@ pends_timeout ms key time cause =
     by_each (λ (l : Status). l ≡ still cause → CauseCase.NotExpired ≡ cause) (ltb ms time) _ _ (λ e. absurd (subst IsStill (sym e) tt)) cause_one
 
 -- preimage kind: no preimage counts, since one that does is chosen
-pub pends_pair : (full : Bool) (ms key : ℕ) (pair : Found) → PendsFor CauseCase.NoPreimage (by_pair full ms key pair)
+pub pends_pair : (full : Bool) (ms key : ℕ) (pair : Option ℕ) → PendsFor CauseCase.NoPreimage (by_pair full ms key pair)
 unfolding status_by by_pair
-pends_pair full ms key (FoundCase.At pair_place) time cause e = absurd (subst IsStill (sym e) tt)
-pends_pair true ms key FoundCase.None time cause e = by_each (λ (l : Status). l ≡ still cause → CauseCase.NoPreimage ≡ cause) (ltb ms time) _ _ (λ g. absurd (subst IsStill (sym g) tt)) cause_one e
-pends_pair false ms key FoundCase.None time cause e = cause_one e
+pends_pair full ms key (Some pair_place) time cause e = absurd (subst IsStill (sym e) tt)
+pends_pair true ms key None time cause e = by_each (λ (l : Status). l ≡ still cause → CauseCase.NoPreimage ≡ cause) (ltb ms time) _ _ (λ g. absurd (subst IsStill (sym g) tt)) cause_one e
+pends_pair false ms key None time cause e = cause_one e
 
 -- ---- the wait, by the place that was noted
 

@@ -8,8 +8,9 @@ use mathlib.Core.Bool.{Bool, true, false, cond, ◌&&◌, and-false, false≢tru
 use mathlib.Core.List.{List, [], ◌∷◌}
 use mathlib.Core.Logic.{inl, inr, ⊎_elim}
 use lib.Dec.{eqb, ltb}
-use lib.ListN.{length, get_or, take, drop}
+use lib.ListN.{length, get_or, drop}
 use borrow.Author.Tests.{eq-eqb, ne_eqb}
+use Rattle.std.specs.Prelude.{Ok, Err}
 use Rattle.fiber_bytes.specs.Bytes.{part}
 use Rattle.fiber_bytes.proofs.CaseLaws.{by_each, by_test}
 use Rattle.fiber_choice.specs.declared.kinds.Side.{Side}
@@ -25,7 +26,6 @@ use Rattle.fiber_choice.specs.declared.kinds.Noted.{Noted}
 use Rattle.fiber_choice.specs.declared.kinds.Cause.{Cause}
 use Rattle.fiber_choice.specs.declared.kinds.Wait.{Wait}
 use Rattle.fiber_choice.specs.declared.kinds.Wait.TheVariants as WaitCase
-use Rattle.fiber_choice.specs.declared.kinds.Pick.TheVariants as PickCase
 use Rattle.fiber_choice.specs.declared.kinds.Dues.{Dues}
 use Rattle.fiber_witness.proofs.UpdateLaws.{part_between}
 use Rattle.fiber_choice.specs.Entries.{entries}
@@ -33,9 +33,9 @@ use Rattle.fiber_choice.specs.Walk.{our_side, our_share, Verdict, passed, timeou
 use Rattle.fiber_choice.specs.Verdicts.{verdict, verdicts, may_share, walked}
 use Rattle.fiber_choice.specs.Waits.{still, status_by, first_pending}
 use Rattle.fiber_choice.specs.inner.Plan.{Reaches, ReachesAll, Within, Below}
-use Rattle.fiber_choice.specs.inner.Noting.{noted, onward_noting, noting, verdict_at, WaitsAt, pick_of}
+use Rattle.fiber_choice.specs.inner.Noting.{noted, onward_noting, noting, verdict_at, WaitsAt, pick_of, Pick, picked, unpicked}
 use Rattle.fiber_choice.specs.Promises.{KeyIn}
-use Rattle.fiber_choice.proofs.EntriesLaws.{Along, along_end, along_stop, along_next, entries_length}
+use Rattle.fiber_choice.proofs.EntriesLaws.{EntryLeft, entry_left, entries_length}
 use Rattle.fiber_choice.proofs.VerdictsLaws.{VerdictWithin, verdict_within}
 use Rattle.fiber_choice.proofs.WaitsLaws.{lead, Unchosen, count_one, still_pends, gone_falls, Leads, leads, noting_walks, noting_lead, walk_unchosen, walk_falls, verdicts_length, verdicts_at, share_stays}
 
@@ -58,48 +58,47 @@ module _ (h : ℕ) (for_remote : Bool) (time : ℕ) (tlcs ps : List (List ℕ)) 
   abbrev pub note_from : ℕ → ℕ → ℕ → List (List ℕ) → Noted
   note_from place pending first ts = noting time place pending first (verdicts h for_remote tlcs ps stage place ts)
 
-  -- At a place, to walk on from here gives what the whole walk gives. Of those that are not walked yet all are pending.
-  pub record Walking (size : ℕ) (s : List ℕ) (whole : Noted) (pending first at place : ℕ) : Type 0 where
-    pub many : length s / size ≤ pending + place
-    pub along : Along size s (note_from place pending first) whole at place
+  -- At a place, with the tracked TLCs that are left: to walk on from here gives what the whole walk gives. Of those all are pending.
+  pub record Walking (size : ℕ) (s : List ℕ) (whole : Noted) (pending first : ℕ) (es : List (List ℕ)) (place : ℕ) : Type 0 where
+    pub many : length es ≤ pending
+    pub left : es ≡ drop place (entries size s)
+    pub rest : note_from place pending first es ≡ whole
 
   -- before the first, all are pending
-  pub walking_start : (size size' : ℕ) (s : List ℕ) → size ≡ size' → Walking size s (note_from 0 (length (entries size' s)) 0 (entries size' s)) (length s / size) 0 0 0
-  walking_start size size' s e = record {
-    many = omega arith;
-    along = record {
-      low = omega arith;
-      place = sym (zero-mul size);
-      rest =
-          ap (λ (k : ℕ). note_from 0 k 0 (entries size s)) (sym (entries_length size s))
-          ∙ ap (λ (k : ℕ). note_from 0 (length (entries k s)) 0 (entries k s)) e;
-    };
-  }
+  pub walking_start : (size size' : ℕ) (s : List ℕ) (es : List (List ℕ)) → size ≡ size' → es ≡ entries size' s
+      → Walking size' s (note_from 0 (length (entries size' s)) 0 (entries size' s)) (length s / size) 0 es 0
+  walking_start size size' s es e f =
+      let n : length s / size ≡ length (entries size' s) = ap (λ (k : ℕ). length s / k) e ∙ sym (entries_length size' s) in
+      record { many = omega (arith, n, ap length f); left = f; rest = rw (n, f) }
 
-  module _ (size : ℕ) (s : List ℕ) (whole : Noted) (pending first at place : ℕ) (c : Walking size s whole pending first at place) where
+  module _ (size : ℕ) (s : List ℕ) (whole : Noted) (pending first : ℕ) (es : List (List ℕ)) (place : ℕ) (c : Walking size s whole pending first es place) where
     -- none was chosen
-    pub walking_end : length s / size ≤ place → record { step = StepCase.Pending pending; first = first } ≡ whole
+    pub walking_end : es ≡ [] → record { step = StepCase.Pending pending; first = first } ≡ whole
     unfolding noting verdicts
-    walking_end g = along_end size s (note_from place pending first) whole at place c.along g
+    walking_end e = rw e at c.rest
 
-    module _ (g : place < length s / size) (w : Step) (f : w ≡ step_of time place pending (verdict h for_remote tlcs ps stage place (take (at + size - at) (drop at s)))) where
-      -- the TLC is the one that the code cuts
-      e : w ≡ step_of time place pending (verdict h for_remote tlcs ps stage place (part s at size))
-      e = f ∙ ap (λ (t : List ℕ). step_of time place pending (verdict h for_remote tlcs ps stage place t)) (part_between s at size)
+    module _ (t : List ℕ) (ts : List (List ℕ)) (e : es ≡ t ∷ ts) where
+      -- the TLC is whole, and one of those that are pending
+      pub walking_at : EntryLeft size s place t ts
+      walking_at = entry_left size s place es t ts c.left e
 
-      -- one is chosen
-      pub walking_chosen : (choice : Choice) (key : Key) → w ≡ StepCase.Chosen choice key → record { step = StepCase.Chosen choice key; first = first } ≡ whole
-      unfolding noting verdicts onward_noting
-      walking_chosen choice key k =
-          along_stop size s (note_from place pending first) whole at place c.along g (record { step = StepCase.Chosen choice key; first = first }) (λ es. rw (← e, k))
+      pub walking_some : 0 < pending
+      walking_some = omega (arith, c.many, ap length e)
 
-      -- on to the next
-      pub walking_on : (left next : ℕ) → w ≡ StepCase.Pending left → next ≡ noted place pending left first → Walking size s whole left next (at + size) (place + 1)
-      unfolding noting verdicts onward_noting
-      walking_on left next k n = record {
-        many = omega (arith, c.many, subst (Falls pending) (sym e ∙ k) (step_falls time place pending (verdict h for_remote tlcs ps stage place (part s at size))));
-        along = along_next size s (note_from place pending first) whole at place c.along g (note_from (place + 1) left next) (λ es. rw (← e, k, n));
-      }
+      module _ (w : Step) (f : w ≡ step_of time place pending (verdict h for_remote tlcs ps stage place t)) where
+        -- one is chosen
+        pub walking_chosen : (choice : Choice) (key : Key) → w ≡ StepCase.Chosen choice key → record { step = StepCase.Chosen choice key; first = first } ≡ whole
+        unfolding noting verdicts onward_noting
+        walking_chosen choice key k = rw (e, sym f ∙ k) at c.rest
+
+        -- on to the next
+        pub walking_on : (left next : ℕ) → w ≡ StepCase.Pending left → next ≡ noted place pending left first → Walking size s whole left next ts (place + 1)
+        unfolding noting verdicts onward_noting
+        walking_on left next k n = record {
+          many = omega (arith, c.many, ap length e, subst (Falls pending) (sym f ∙ k) (step_falls time place pending (verdict h for_remote tlcs ps stage place t)));
+          left = walking_at.rest;
+          rest = rw n (rw (e, sym f ∙ k) at c.rest);
+        }
 
 -- ---- behind it
 
@@ -295,12 +294,12 @@ module _ (h : ℕ) (for_remote : Bool) (time : ℕ) (tlcs ps : List (List ℕ)) 
       f ∙ ap (λ (b : Bool). or_share for_remote b found.step) m
       ∙ ap (or_share for_remote (may_share stage)) (ap (λ (x : Noted). x.step) e ∙ noting_walks time 0 (length ts) 0 (verdicts h for_remote tlcs ps stage 0 ts))
 
-  pub picked_chosen : (choice : Choice) (key : Key) → s ≡ StepCase.Chosen choice key → PickCase.Chosen choice key ≡ pick_of (walked h for_remote time tlcs ps stage ts) wait_for
+  pub picked_chosen : (choice : Choice) (key : Key) → s ≡ StepCase.Chosen choice key → picked choice key ≡ pick_of (walked h for_remote time tlcs ps stage ts) wait_for
   unfolding pick_of
   picked_chosen choice key g = rw (← walked_as, g)
 
   module _ (left : ℕ) (g : s ≡ StepCase.Pending left) where
-    pub picked_wait : (w : Wait) → w ≡ wait_for → PickCase.Wait w ≡ pick_of (walked h for_remote time tlcs ps stage ts) wait_for
+    pub picked_wait : (w : Wait) → w ≡ wait_for → unpicked w ≡ pick_of (walked h for_remote time tlcs ps stage ts) wait_for
     unfolding pick_of
     picked_wait w k = rw (← walked_as, g, k)
 

@@ -1,16 +1,12 @@
 -- The lists that the host lends, flat, one entry behind the other; docs/SCOPE.md, "What the host lends".
-use Rattle.std.specs.Prelude.{ℕ, ◌+◌, ◌/◌, ◌%◌, Bool, true, false, cond, ◌&&◌, List, [], ◌∷◌, map, length, get_or, drop, eqb, leb}
+use Rattle.std.specs.Prelude.{ℕ, ◌+◌, ◌/◌, ◌%◌, Bool, true, false, cond, ◌&&◌, List, [], ◌∷◌, map, length, get_or, drop, eqb, leb, Option, bytes_eq}
+use Rattle.std.specs.List.{list_all, position_from}
 use Rattle.fiber_bytes.specs.Bytes.{part, le}
-use Rattle.fiber_choice.specs.declared.kinds.Found.{Found}
-use Rattle.fiber_choice.specs.declared.kinds.Found.TheVariants as FoundCase
 use Rattle.fiber_witness.specs.Witness.{record_len, chunks}
 
 -- whether two lists of bytes are the same
-unfoldable pub same : List ℕ → List ℕ → Bool
-same [] [] = true
-same [] (y ∷ ys) = false
-same (x ∷ xs) [] = false
-same (x ∷ xs) (y ∷ ys) = eqb x y && same xs ys
+abbrev pub same : List ℕ → List ℕ → Bool
+same xs ys = bytes_eq xs ys
 
 -- and two lists of such
 unfoldable pub same_lists : List (List ℕ) → List (List ℕ) → Bool
@@ -27,16 +23,12 @@ entries size s = chunks size (length s / size) s
 abbrev pub whole_entries : ℕ → List ℕ → Bool
 whole_entries size s = eqb (length s % size) 0
 
-unfoldable pub all : (List ℕ → Bool) → List (List ℕ) → Bool
-all good [] = true
-all good (e ∷ es) = good e && all good es
+abbrev pub all : (List ℕ → Bool) → List (List ℕ) → Bool
+all good es = list_all good es
 
 -- where the first one is that passes a test, place i being the first of the list's
-unfoldable pub find_first : (List ℕ → Bool) → ℕ → List (List ℕ) → Found
-find_first test i [] = FoundCase.None
-find_first test i (e ∷ es) =
-    let next = find_first test (i + 1) es in
-    cond (test e) (FoundCase.At i) next
+abbrev pub find_first : (List ℕ → Bool) → ℕ → List (List ℕ) → Option ℕ
+find_first test i es = position_from test i es
 
 -- ---- settlement TLC, 124 bytes: received 0/1, algorithm 0 (CKB) or 1 (SHA-256), amount 16, hash 32, expiry in ms 8, local key 33,
 -- remote key 33

@@ -1,5 +1,5 @@
 -- What is handed out; docs/SCOPE.md, "Handed out", with row 13 of its table.
-use Rattle.std.specs.Prelude.{ℕ, Bool, true, false, cond, List, [], ◌∷◌, ◌++◌, length, get_or, take, drop, replicate, leb}
+use Rattle.std.specs.Prelude.{ℕ, Bool, true, false, cond, List, [], ◌∷◌, ◌++◌, length, get_or, take, drop, replicate, leb, Option}
 use Rattle.std.proofs.lemmas.List.Edits.{sets}
 use Rattle.fiber_blake2b.specs.Blake2b.{ckb_hash}
 use Rattle.fiber_types.specs.declared.tlc.Amount.{Amount}
@@ -11,9 +11,9 @@ use Rattle.fiber_choice.specs.declared.kinds.Way.TheVariants as WayCase
 use Rattle.fiber_choice.specs.declared.kinds.Choice.{Choice}
 use Rattle.fiber_choice.specs.declared.kinds.Choice.TheVariants as ChoiceCase
 use Rattle.fiber_choice.specs.declared.kinds.Key.{Key}
-use Rattle.fiber_choice.specs.declared.kinds.Delay.{Delay}
-use Rattle.fiber_choice.specs.declared.kinds.ChoiceAnswer.{ChoiceAnswer}
-use Rattle.fiber_choice.specs.declared.kinds.ChoiceAnswer.TheVariants as AnswerCase
+use Rattle.fiber_since.specs.declared.epoch.Epoch.{Epoch}
+use Rattle.fiber_refusal.specs.declared.Refusal.TheVariants.{OutputShort}
+use Rattle.fiber_choice.specs.Answered.{Answer, decided, refused}
 use Rattle.fiber_choice.specs.Entries.{tracked_records, pair_preimage}
 
 -- ---- the unlock, with 65 zero signature bytes
@@ -59,7 +59,7 @@ record_size h (ChoiceCase.Tlc place way) = record_len h
 
 -- Of a choice with its key and its delay, over shares, the record being at a place, the settlement the last one or not: the unlock, the state
 -- before it and the new args, joined; 13 at their length where they have no room.
-unfoldable pub handed_out : ℕ → List ℕ → List (List ℕ) → List (List ℕ) → List ℕ → List ℕ → Bool → Choice → Key → Delay → ℕ → List ℕ → Outcome ChoiceAnswer
+unfoldable pub handed_out : ℕ → List ℕ → List (List ℕ) → List (List ℕ) → List ℕ → List ℕ → Bool → Choice → Key → Option Epoch → ℕ → List ℕ → Outcome Answer
 handed_out h args tracked ps remote local last choice key delay place out =
     let tlcs = tracked_records tracked in
     let unlock = unlock_of ps choice in
@@ -68,7 +68,7 @@ handed_out h args tracked ps remote local last choice key delay place out =
     let joined = unlock ++ before ++ new in
     cond (leb (length joined) (length out))
     (record {
-      answer = AnswerCase.Chosen (record {
+      answer = decided (record {
         choice = choice;
         amount = choice_amount tlcs remote local choice;
         key = key;
@@ -82,4 +82,4 @@ handed_out h args tracked ps remote local last choice key delay place out =
       });
       bytes = sets out 0 joined;
     })
-    (unwritten (AnswerCase.Refused 13 (length joined)) out)
+    (unwritten (refused (OutputShort (length joined))) out)

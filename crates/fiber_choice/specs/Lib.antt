@@ -7,6 +7,7 @@ pub mod Preimages
 pub mod Walk
 pub mod Verdicts
 pub mod Waits
+pub mod Answered
 pub mod HandedOut
 pub mod Settlements
 pub mod Choice

@@ -1,11 +1,9 @@
 -- What a host may rely on where a choice is handed out, about the update that follows it, and where a choice waits: a promise to a field, proved
 -- as one statement. The definitions that they speak of are those that the contracts of the operations cite.
-use Rattle.std.specs.Prelude.{ℕ, ◌+◌, ◌-◌, ◌≤◌, ◌<◌, ◌≡◌, Bool, true, false, cond, ◌&&◌, List, [], ◌∷◌, ◌++◌, length, get_or, replicate}
+use Rattle.std.specs.Prelude.{ℕ, ◌+◌, ◌-◌, ◌≤◌, ◌<◌, ◌≡◌, Bool, true, false, cond, ◌&&◌, List, [], ◌∷◌, ◌++◌, length, get_or, replicate, Ok, Err}
 use Rattle.std.proofs.lemmas.List.Edits.{sets}
 use Rattle.fiber_bytes.specs.Bytes.{part}
-use Rattle.fiber_types.specs.declared.answer.Written.TheVariants as WrittenCase
 use Rattle.fiber_since.specs.declared.epoch.Epoch.{Epoch}
-use Rattle.fiber_since.specs.declared.epoch.Scaled.TheVariants as ScaledCase
 use Rattle.fiber_since.specs.Epoch.{scaled}
 use Rattle.fiber_types.specs.Records.{amount_at, unwritten}
 use Rattle.fiber_witness.specs.Update.{share_left, standing, Unlocked, fine, faulty, unlocked, updated}
@@ -23,9 +21,9 @@ use Rattle.fiber_choice.specs.declared.kinds.Cause.{Cause}
 use Rattle.fiber_choice.specs.declared.kinds.Wait.{Wait}
 use Rattle.fiber_choice.specs.declared.kinds.Wait.TheVariants as WaitCase
 use Rattle.fiber_choice.specs.declared.kinds.Decision.{Decision}
-use Rattle.fiber_choice.specs.declared.kinds.ChoiceAnswer.TheVariants as AnswerCase
 use Rattle.fiber_choice.specs.Request.{Request, settlement_tlcs, tracked_tlcs, pairs, delay_of}
-use Rattle.fiber_choice.specs.declared.kinds.ChoiceAnswer.{ChoiceAnswer}
+use Rattle.fiber_choice.specs.declared.kinds.NoChoice.TheVariants as NoChoiceCase
+use Rattle.fiber_choice.specs.Answered.{Answer, decided, waiting}
 use Rattle.fiber_choice.specs.Entries.{same, tracked_records}
 use Rattle.fiber_choice.specs.FirstRecords.{first_records, first_state}
 use Rattle.fiber_choice.specs.Walk.{our_side, our_share, Verdict, step_of}
@@ -37,14 +35,14 @@ use Rattle.fiber_choice.specs.Choice.{choice_of, record_of}
 
 -- a choice is handed out
 abbrev pub Decides : Request → Bool → List ℕ → List ℕ → Decision → Type 0
-Decides q is_later w out d = (choice_of q is_later w out).answer ≡ AnswerCase.Chosen d
+Decides q is_later w out d = (choice_of q is_later w out).answer ≡ decided d
 
 -- ---- the lists that a choice points into
 
 -- the records of the TLCs before the unlock: those that stand after the witness's own unlocks, or those that are built
 unfoldable pub tlcs_left : ℕ → List ℕ → Unlocked → List (List ℕ)
 tlcs_left h w (fine n share_place t) = standing h w n t.settled
-tlcs_left h w (faulty number place) = []
+tlcs_left h w (faulty r) = []
 
 abbrev pub tlcs_before : Request → Bool → List ℕ → List (List ℕ)
 tlcs_before q is_later w = cond is_later (tlcs_left q.h w (unlocked q.h w)) (first_records q.h q.for_remote (settlement_tlcs q))
@@ -96,7 +94,7 @@ pub data Onward : Step → Step → Type 0 where
 -- which settlement it is; a first one with the parts of its delay that are due
 pub data IsStage (q : Request) : Bool → Stage → Type 0 where
   later_stage : IsStage q true StageCase.Later
-  first_stage : {full third two_thirds : Epoch} → delay_of q.args ≡ ScaledCase.Epoch full → scaled full 1 3 ≡ ScaledCase.Epoch third → scaled full 2 3 ≡ ScaledCase.Epoch two_thirds
+  first_stage : {full third two_thirds : Epoch} → delay_of q.args ≡ Ok full → scaled full 1 3 ≡ Ok third → scaled full 2 3 ≡ Ok two_thirds
       → IsStage q false (StageCase.First (dues_by q.header third two_thirds full q.current))
 
 -- the verdict of the TLC at a place, and the walk's step there, with so many pending
@@ -110,7 +108,7 @@ step_at q stage place count = step_of q.time place count (verdict_of q stage pla
 unfoldable pub last_left : Bool → List ℕ → Unlocked → Bool
 last_left for_remote w (fine n share_place t) =
     is_last (cond for_remote (share_left t.remote (part w share_place 36)) (share_left t.local (part w (share_place + 36) 36)))
-last_left for_remote w (faulty number place) = false
+last_left for_remote w (faulty r) = false
 
 -- what is named: our share in the last settlement, else what the walk names
 unfoldable pub named : Request → Bool → List ℕ → Stage → Step
@@ -125,7 +123,7 @@ pub record Promised (q : Request) (is_later : Bool) (w out bytes : List ℕ) (d 
   -- a TLC that is chosen is one of those before the unlock; the record given back is its own, byte for byte, and the amount is that record's
   pub chosen_stands : (place : ℕ) (way : Way) → d.choice ≡ ChoiceCase.Tlc place way
       → (place < length (tlcs_before q is_later w))
-      × ((record_of is_later (AnswerCase.Chosen d) w q.tracked ≡ get_or (tlcs_before q is_later w) place [])
+      × ((record_of is_later (decided d) w q.tracked ≡ get_or (tlcs_before q is_later w) place [])
       × (d.amount ≡ amount_at (get_or (tlcs_before q is_later w) place []) 1))
   -- It is the last settlement exactly if it is a later one and the other slot's key hash in the state that is handed out is zeros. Our share is
   -- chosen then, whatever TLCs stand: the reference makes no successor cell and pays out the whole capacity.
@@ -141,11 +139,11 @@ pub record Promised (q : Request) (is_later : Bool) (w out bytes : List ℕ) (d 
   pub room : length left ≤ d.state_len
   pub updates : (count : ℕ) (into : List ℕ) → length left ≤ length into
       → updated q.h (count ∷ (part bytes d.unlock_len d.state_len ++ part bytes 0 d.unlock_len)) into
-      ≡ record { answer = WrittenCase.Bytes (length left); bytes = sets into 0 left }
+      ≡ record { answer = Ok (length left); bytes = sets into 0 left }
   pub hashed : part bytes (d.unlock_len + d.state_len) d.args_len ≡ new_args q.args left
   -- the state of a later settlement is what the update of its witness leaves
   pub state_of_witness : is_later ≡ true → (into : List ℕ) → d.state_len ≤ length into
-      → updated q.h w into ≡ record { answer = WrittenCase.Bytes d.state_len; bytes = sets into 0 (part bytes d.unlock_len d.state_len) }
+      → updated q.h w into ≡ record { answer = Ok d.state_len; bytes = sets into 0 (part bytes d.unlock_len d.state_len) }
   -- that of a first settlement is the first state of the settlement data
   pub state_of_data : is_later ≡ false → part bytes d.unlock_len d.state_len ≡ first_state q.h q.for_remote q.settlement
   -- at every later time a choice is handed out to an output of the same length: the same with the same key, or an earlier TLC by timeout. No
@@ -164,7 +162,7 @@ Promises =
 
 -- a choice waits, by a row behind 20 and 21
 abbrev pub WaitsFor : Request → Bool → List ℕ → List ℕ → Wait → Type 0
-WaitsFor q is_later w out wait = ((choice_of q is_later w out).answer ≡ AnswerCase.Wait wait) × (22 ≤ wait_number wait)
+WaitsFor q is_later w out wait = ((choice_of q is_later w out).answer ≡ waiting wait) × (22 ≤ wait_number wait)
 
 pub record Waiting (q : Request) (is_later : Bool) (w : List ℕ) (wait : Wait) : Type 0 where
   pub stage : Stage
@@ -173,7 +171,7 @@ pub record Waiting (q : Request) (is_later : Bool) (w : List ℕ) (wait : Wait) 
   pub pending : ℕ
   pub names_nothing : walked_by q stage ≡ StepCase.Pending pending
   -- with every output, which stays as it was
-  pub any_output : (out : List ℕ) → choice_of q is_later w out ≡ unwritten (AnswerCase.Wait wait) out
+  pub any_output : (out : List ℕ) → choice_of q is_later w out ≡ unwritten (waiting wait) out
   -- 22: it is a first settlement without TLCs whose full delay isn't due
   pub without_tlcs : wait ≡ WaitCase.DelayNotDue → (is_later ≡ false) × ((tlcs_before q is_later w ≡ []) × (may_share stage ≡ false))
   -- Else the TLC that is named stands, and those that stand are the tracked ones, place by place. It is pending for the cause that is said, and the place
@@ -190,17 +188,17 @@ WaitPromises = (q : Request) (is_later : Bool) (w out : List ℕ) (wait : Wait) 
 -- ---- one of 22 to 25 exactly where nothing is named
 
 -- an answer that no row before the walk gives
-abbrev pub FromWalk : ChoiceAnswer → Type 0
-FromWalk (AnswerCase.Chosen d) = Unit {0}
-FromWalk (AnswerCase.Wait wait) = 22 ≤ wait_number wait
-FromWalk (AnswerCase.Refused number place) = ⊥
+abbrev pub FromWalk : Answer → Type 0
+FromWalk (Ok d) = Unit {0}
+FromWalk (Err (NoChoiceCase.Wait wait)) = 22 ≤ wait_number wait
+FromWalk (Err (NoChoiceCase.Refused r)) = ⊥
 
 -- For every output: where nothing is named the answer is the wait, by one of 22 to 25, and where something is named it is none.
 pub record Exactly (q : Request) (is_later : Bool) (w : List ℕ) (stage : Stage) : Type 0 where
-  pub waits : (pending : ℕ) → named q is_later w stage ≡ StepCase.Pending pending → (out : List ℕ) → choice_of q is_later w out ≡ unwritten (AnswerCase.Wait (wait_by q stage)) out
+  pub waits : (pending : ℕ) → named q is_later w stage ≡ StepCase.Pending pending → (out : List ℕ) → choice_of q is_later w out ≡ unwritten (waiting (wait_by q stage)) out
   pub numbers : (22 ≤ wait_number (wait_by q stage)) × (wait_number (wait_by q stage) ≤ 25)
   pub waits_not : (choice : Choice) (key : Key) → named q is_later w stage ≡ StepCase.Chosen choice key → (out : List ℕ) (wait : Wait)
-      → (choice_of q is_later w out).answer ≡ AnswerCase.Wait wait → ⊥
+      → (choice_of q is_later w out).answer ≡ waiting wait → ⊥
 
 -- no row before the walk applies: some output is answered from it
 abbrev pub WaitsExactly : Type 0

@@ -1,14 +1,15 @@
 -- What a choice is asked with; docs/SCOPE.md, "What the host lends", with rows 14, 10 and 11 of its table.
-use Rattle.std.specs.Prelude.{ℕ, Bool, cond, ◌&&◌, List, length, eqb, ltb}
+use Rattle.std.specs.Prelude.{ℕ, Bool, cond, ◌&&◌, List, length, eqb, ltb, Result, Ok, Err}
 use Rattle.fiber_bytes.specs.Bytes.{part, le}
 use Rattle.fiber_since.specs.declared.epoch.Epoch.{Epoch}
-use Rattle.fiber_since.specs.declared.epoch.Scaled.{Scaled}
-use Rattle.fiber_since.specs.declared.epoch.Scaled.TheVariants as ScaledCase
+use Rattle.fiber_refusal.specs.declared.Refusal.{Refusal}
+use Rattle.fiber_refusal.specs.declared.Refusal.TheVariants.{ArgsShort, NoDelay}
 use Rattle.fiber_since.specs.Since.{by_metric, since}
 use Rattle.fiber_since.specs.Epoch.{epoch_of, within_bits}
 use Rattle.fiber_types.specs.declared.tlc.Amount.{Amount}
-use Rattle.fiber_types.specs.Records.{valid_hash_len}
-use Rattle.fiber_choice.specs.declared.kinds.Scalars.{Scalars}
+use Rattle.fiber_types.specs.HashLen.{valid_hash_len}
+use Rattle.fiber_choice.specs.declared.request.SettlementData.{SettlementData as Lent}
+use Rattle.fiber_choice.specs.declared.request.Request.{Request as Asked}
 use Rattle.fiber_choice.specs.Entries.{entries, whole_entries, all, settlement_len, valid_settlement, tracked_len, valid_tracked, pair_len}
 
 -- the settlement TLCs, with both share amounts and both settlement keys beside the list
@@ -32,17 +33,26 @@ pub record Request : Type 0 where
   pub preimages : List ℕ
 
 -- as it comes to the operation
-abbrev pub request_of : Scalars → List ℕ → List ℕ → List ℕ → List ℕ → List ℕ → List ℕ → Request
-request_of s args tlcs local_key remote_key tracked preimages = record {
-  h = s.h;
-  for_remote = s.for_remote;
-  time = s.time;
-  header = s.header;
-  current = s.current;
-  args = args;
-  settlement = record { tlcs = tlcs; local_amount = s.local_amount; remote_amount = s.remote_amount; local_key = local_key; remote_key = remote_key };
-  tracked = tracked;
-  preimages = preimages;
+abbrev pub data_of : Lent → SettlementData
+data_of d = record {
+  tlcs = d.tlcs.now;
+  local_amount = d.local_amount;
+  remote_amount = d.remote_amount;
+  local_key = d.local_key.now;
+  remote_key = d.remote_key.now;
+}
+
+abbrev pub request_of : Asked → Request
+request_of q = record {
+  h = q.h;
+  for_remote = q.for_remote;
+  time = q.time;
+  header = q.header;
+  current = q.current;
+  args = q.args.now;
+  settlement = data_of q.settlement;
+  tracked = q.tracked.now;
+  preimages = q.preimages.now;
 }
 
 abbrev pub settlement_tlcs : Request → List (List ℕ)
@@ -75,8 +85,7 @@ valid_request q =
 
 -- ---- the delay in the lock args: 10 below 36 bytes, 11 where bytes 20 to 27 are no relative epoch since
 
-unfoldable pub delay_of : List ℕ → Scaled
+unfoldable pub delay_of : List ℕ → Result Epoch Refusal
 delay_of args =
     let s = since (le (part args 20 8)) in
-    let no_epoch = ScaledCase.Refused 11 0 in
-    cond (ltb (length args) 36) (ScaledCase.Refused 10 0) (cond s.relative (by_metric (ScaledCase.Epoch (epoch_of s.value)) no_epoch no_epoch s.metric) no_epoch)
+    cond (ltb (length args) 36) (Err ArgsShort) (cond s.relative (by_metric (Ok (epoch_of s.value)) (Err NoDelay) (Err NoDelay) s.metric) (Err NoDelay))

@@ -1,13 +1,9 @@
 -- The verdict of each TLC; docs/SCOPE.md, "The choice", first the later settlement's bullets, then the first one's.
-use Rattle.std.specs.Prelude.{ℕ, ◌+◌, Bool, true, cond, ◌&&◌, List, [], ◌∷◌, length, get_or, take, eqb}
+use Rattle.std.specs.Prelude.{ℕ, ◌+◌, Bool, true, cond, ◌&&◌, List, [], ◌∷◌, length, get_or, take, eqb, Option, Some, None}
 use Rattle.fiber_since.specs.declared.epoch.Epoch.{Epoch}
-use Rattle.fiber_since.specs.declared.since.Expiry.{Expiry}
-use Rattle.fiber_since.specs.declared.since.Expiry.TheVariants as ExpiryCase
 use Rattle.fiber_since.specs.Since.{absolute_expiry}
 use Rattle.fiber_since.specs.Epoch.{due}
 use Rattle.fiber_types.specs.Records.{is_offered, tlc_at, payment_hash, key_hash_in}
-use Rattle.fiber_choice.specs.declared.kinds.Found.{Found}
-use Rattle.fiber_choice.specs.declared.kinds.Found.TheVariants as FoundCase
 use Rattle.fiber_choice.specs.declared.kinds.Dues.{Dues}
 use Rattle.fiber_choice.specs.declared.kinds.Cause.TheVariants as CauseCase
 use Rattle.fiber_choice.specs.declared.kinds.Stage.{Stage}
@@ -25,23 +21,23 @@ unfoldable pub is_key : List ℕ → List ℕ → List ℕ → Bool
 is_key start ours t = same (take (length start) (hash t)) start && same (hash_of (local_key t)) ours
 
 -- of a record; our slot is local with for_remote
-unfoldable pub key_of : ℕ → Bool → List (List ℕ) → List ℕ → Found
+unfoldable pub key_of : ℕ → Bool → List (List ℕ) → List ℕ → Option ℕ
 key_of h for_remote tlcs r = find_first (is_key (payment_hash h r) (key_hash_in h for_remote r)) 0 tlcs
 
 -- preimage kind, with its key: chosen with a counting preimage; without one, pending falls if the full delay is due and time > expiry
-unfoldable pub by_pair : Bool → ℕ → ℕ → Found → Verdict
-by_pair full ms key (FoundCase.At pair_place) = ready pair_place key
-by_pair full ms key FoundCase.None = cond full (falls ms) (passed CauseCase.NoPreimage)
+unfoldable pub by_pair : Bool → ℕ → ℕ → Option ℕ → Verdict
+by_pair full ms key (Some pair_place) = ready pair_place key
+by_pair full ms key None = cond full (falls ms) (passed CauseCase.NoPreimage)
 
 -- without a key passed over; no delay is left to wait for
-unfoldable pub by_key : Bool → ℕ → Found → Found → Verdict
-by_key is_timeout ms found_pair (FoundCase.At key) = cond is_timeout (timeout ms key) (by_pair true ms key found_pair)
-by_key is_timeout ms found_pair FoundCase.None = passed CauseCase.NoKey
+unfoldable pub by_key : Bool → ℕ → Option ℕ → Option ℕ → Verdict
+by_key is_timeout ms found_pair (Some key) = cond is_timeout (timeout ms key) (by_pair true ms key found_pair)
+by_key is_timeout ms found_pair None = passed CauseCase.NoKey
 
 -- without an absolute timestamp expiry passed over
-unfoldable pub by_expiry : Bool → Found → Found → Expiry → Verdict
-by_expiry is_timeout found_pair found_key (ExpiryCase.At ms) = by_key is_timeout ms found_pair found_key
-by_expiry is_timeout found_pair found_key ExpiryCase.None = passed CauseCase.NoExpiry
+unfoldable pub by_expiry : Bool → Option ℕ → Option ℕ → Option ℕ → Verdict
+by_expiry is_timeout found_pair found_key (Some ms) = by_key is_timeout ms found_pair found_key
+by_expiry is_timeout found_pair found_key None = passed CauseCase.NoExpiry
 
 -- a tracked TLC, among the settlement TLCs and the stored preimages
 unfoldable pub later_verdict : ℕ → Bool → List (List ℕ) → List (List ℕ) → List ℕ → Verdict

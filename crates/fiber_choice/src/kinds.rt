@@ -1,28 +1,20 @@
 // The types of the choice, below all that uses them: what is asked, what may be chosen, and what the walk and the output pass on.
+ghost use Rattle.std.specs.Prelude.{◌≡◌};
+ghost use Rattle.fiber_choice.specs.declared.kinds.NoChoice.TheVariants as NoChoiceCase;
+
+use fiber_refusal::Refusal;
 use fiber_types::epoch::Epoch;
 use fiber_types::tlc::Amount;
 
-// The scalars of a request. Its lists come beside them.
-#[derive(Clone, Copy)]
-pub struct Scalars {
-    pub h: usize,
-    pub for_remote: bool,
-    pub time: u64,
-    pub header: Epoch,
-    pub current: Epoch,
-    pub local_amount: Amount,
-    pub remote_amount: Amount,
-}
-
 // A share of one side: the unlock byte is 0xFE for the remote one, 0xFF for the local one.
-#[derive(Clone, Copy)]
+#[derive(Clone, Copy, Debug, PartialEq, Eq)]
 pub enum Side {
     Remote,
     Local,
 }
 
 // How a TLC is taken.
-#[derive(Clone, Copy)]
+#[derive(Clone, Copy, Debug, PartialEq, Eq)]
 pub enum Way {
     // Its expiry has passed.
     Timeout,
@@ -31,7 +23,7 @@ pub enum Way {
 }
 
 // The unlock that is chosen.
-#[derive(Clone, Copy)]
+#[derive(Clone, Copy, Debug, PartialEq, Eq)]
 pub enum Choice {
     Share(Side),
     // The TLC at a place of the state before the unlock, never above 253.
@@ -39,24 +31,10 @@ pub enum Choice {
 }
 
 // Which key signs: our settlement key, or the local key of the settlement TLC at a place.
-#[derive(Clone, Copy)]
+#[derive(Clone, Copy, Debug, PartialEq, Eq)]
 pub enum Key {
     Settlement,
     Tlc(usize),
-}
-
-// The delay of a first settlement; a later one hands out none.
-#[derive(Clone, Copy)]
-pub enum Delay {
-    None,
-    Epoch(Epoch),
-}
-
-// The place of what was looked for.
-#[derive(Clone, Copy)]
-pub enum Found {
-    At(usize),
-    None,
 }
 
 // Which of 1/3, 2/3 and all of the delay are due.
@@ -75,7 +53,7 @@ pub enum Stage {
 }
 
 // Why a TLC is still pending.
-#[derive(Clone, Copy)]
+#[derive(Clone, Copy, Debug, PartialEq, Eq)]
 pub enum Cause {
     // A later settlement passes it over: it has no absolute timestamp expiry.
     NoExpiry,
@@ -90,7 +68,7 @@ pub enum Cause {
 }
 
 // What a choice waits for.
-#[derive(Clone, Copy)]
+#[derive(Clone, Copy, Debug, PartialEq, Eq)]
 pub enum Wait {
     // The tracked list is not that of the TLCs.
     ListDiffers,
@@ -102,12 +80,29 @@ pub enum Wait {
     Tlc { place: usize, cause: Cause },
 }
 
-// Whether the walk may begin; else a wait, or a refusal by its number.
-#[derive(Clone, Copy)]
-pub enum Ready {
-    Yes,
+// Why nothing is chosen.
+#[derive(Clone, Copy, Debug, PartialEq, Eq)]
+pub enum NoChoice {
+    // Nothing to unlock as things stand, by a row from 20 on: ask again.
     Wait(Wait),
-    Refused(usize),
+    // Turned down by any other row.
+    Refused(Refusal),
+}
+
+impl From<Wait> for NoChoice {
+    ghost from_gives = { λ wait why. why ≡ NoChoiceCase.Wait wait };
+
+    fn from(wait: Wait) -> Self {
+        NoChoice::Wait(wait)
+    }
+}
+
+impl From<Refusal> for NoChoice {
+    ghost from_gives = { λ refusal why. why ≡ NoChoiceCase.Refused refusal };
+
+    fn from(refusal: Refusal) -> Self {
+        NoChoice::Refused(refusal)
+    }
 }
 
 // What a step of the walk, and the walk as a whole, comes to: nothing chosen, with so many TLCs pending, or a choice.
@@ -124,36 +119,28 @@ pub struct Noted {
     pub first: usize,
 }
 
-// What a settlement comes to: a choice, or what it waits for.
+// What a walk that chooses names.
 #[derive(Clone, Copy)]
-pub enum Pick {
-    Chosen { choice: Choice, key: Key },
-    Wait(Wait),
+pub struct Chosen {
+    pub choice: Choice,
+    pub key: Key,
 }
 
 // What is decided: the choice, its amount, key and delay; the lengths of the three parts of the output; place and length of
 // the chosen TLC's record in the witness, or in the tracked list; whether it is the last settlement.
-#[derive(Clone, Copy)]
+#[derive(Clone, Copy, Debug, PartialEq, Eq)]
 pub struct Decision {
     pub choice: Choice,
     pub amount: Amount,
     pub key: Key,
-    pub delay: Delay,
+    // that of a first settlement; a later one hands out none
+    pub delay: Option<Epoch>,
     pub unlock_len: usize,
     pub state_len: usize,
     pub args_len: usize,
     pub place: usize,
     pub len: usize,
     pub last: bool,
-}
-
-#[derive(Clone, Copy)]
-pub enum ChoiceAnswer {
-    Chosen(Decision),
-    // Nothing to unlock as things stand, by a row from 20 on: ask again.
-    Wait(Wait),
-    // Turned down by any other row.
-    Refused { number: usize, place: usize },
 }
 
 // What a choice comes to. The TLC at skip is settled, none where skip is as high as the number of TLCs; the pair counts only

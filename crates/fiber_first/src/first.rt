@@ -1,114 +1,69 @@
 // First records: the state that a commitment starts with, written from what the host lends.
 ghost use Rattle.fiber_types.specs.Records.{Gives};
+ghost use Rattle.fiber_choice.specs.Request.{data_of};
 ghost use Rattle.fiber_choice.specs.FirstRecords as S;
 
-use crate::built::{first_record, put_first_tlcs, share_by};
-use crate::entries::{valid_data, valid_settlements};
+use crate::built::{first_record, first_shares, put_first_tlcs};
+use crate::lent::{is_valid_settlement, valid_data};
 use fiber_bytes::put;
-use fiber_types::answer::Written;
-use fiber_types::layout::{RECORD_FIXED, SETTLEMENT_TLC, SHARE_LEN, SHARES, STATE_FIXED};
-use fiber_types::tlc::{Amount, valid_hash_len};
+use fiber_choice::request::SettlementData;
+use fiber_refusal::Refusal;
+use fiber_types::hash_len::HashLen;
+use fiber_types::layout::{SETTLEMENT_TLC, SHARE_LEN, SHARES, STATE_FIXED};
 use fiber_witness::state::put_record;
 
 // Writes the record of one settlement TLC to the front of out, which may be a part of a longer output.
-pub fn settlement_tlc_witness(h: usize, for_remote: bool, tlc: &[u8], out: &mut [u8]) -> Written
+#[tactic(auto, using(fiber_choice::proofs::FirstRecordsLaws::first_length, fiber_types::proofs::RecordsLaws::outcome_none, fiber_types::proofs::RecordsLaws::outcome_over), unfolding(fiber_choice::specs::FirstRecords::wrote_first_tlc))]
+pub fn settlement_tlc_witness(
+    h: usize,
+    for_remote: bool,
+    tlc: &[u8],
+    out: &mut [u8],
+) -> Result<usize, Refusal>
     ensures { Gives (S.wrote_first_tlc h for_remote tlc.now out.old) result out.new }
 {
-    if !valid_hash_len(h) {
-        return Written::Refused {
-            number: 14,
-            place: 0,
-        };
+    let h = HashLen::try_from(h)?;
+    if tlc.len() != SETTLEMENT_TLC || !is_valid_settlement(tlc) {
+        return Err(Refusal::NotWell);
     }
-    if tlc.len() != SETTLEMENT_TLC {
-        return Written::Refused {
-            number: 14,
-            place: 0,
-        };
-    }
-    if !valid_settlements(tlc) {
-        return Written::Refused {
-            number: 14,
-            place: 0,
-        };
-    }
-    let size = RECORD_FIXED + h;
+    let size = h.record_len();
     if out.len() < size {
-        return Written::Refused {
-            number: 13,
-            place: size,
-        };
+        return Err(Refusal::OutputShort(size));
     }
     let record = first_record(h, for_remote, tlc);
-    put_record(&record[0..size], out);
-    Written::Bytes(size)
+    put_record(&record[..size], out);
+    Ok(size)
 }
 
 // The count of TLCs is one byte.
 const MOST_COUNTED: usize = 255;
 
 // Writes the first state: n, records, remote share, local share; without for_remote the sides are swapped.
+#[tactic(auto, using(fiber_choice::proofs::FirstRecordsLaws::data_size, fiber_types::proofs::RecordsLaws::outcome_none, fiber_types::proofs::RecordsLaws::outcome_over), unfolding(fiber_choice::specs::FirstRecords::wrote_first, fiber_choice::specs::Request::valid_data))]
 pub fn settlement_data_witness(
     h: usize,
     for_remote: bool,
-    tlcs: &[u8],
-    local_amount: Amount,
-    remote_amount: Amount,
-    local_key: &[u8],
-    remote_key: &[u8],
+    lent: &SettlementData<'_>,
     out: &mut [u8],
-) -> Written
-    ensures { Gives (S.wrote_first h for_remote (record {
-      tlcs = tlcs.entry.now;
-      local_amount = local_amount;
-      remote_amount = remote_amount;
-      local_key = local_key.now;
-      remote_key = remote_key.now;
-    }) out.entry.now) result out.new }
+) -> Result<usize, Refusal>
+    ensures { Gives (S.wrote_first h for_remote (data_of lent.now) out.old) result out.new }
 {
-    if !valid_hash_len(h) {
-        return Written::Refused {
-            number: 14,
-            place: 0,
-        };
+    let h = HashLen::try_from(h)?;
+    if !valid_data(lent) {
+        return Err(Refusal::NotWell);
     }
-    if !valid_data(tlcs, local_key, remote_key) {
-        return Written::Refused {
-            number: 14,
-            place: 0,
-        };
-    }
-    let n = tlcs.len() / SETTLEMENT_TLC;
+    let n = lent.tlcs.len() / SETTLEMENT_TLC;
     if MOST_COUNTED < n {
-        return Written::Refused {
-            number: 12,
-            place: 0,
-        };
+        return Err(Refusal::TooManyTlcs);
     }
-    let size = STATE_FIXED + n * (RECORD_FIXED + h);
+    let size = STATE_FIXED + n * h.record_len();
     if out.len() < size {
-        return Written::Refused {
-            number: 13,
-            place: size,
-        };
+        return Err(Refusal::OutputShort(size));
     }
-    let remote = share_by(
-        for_remote,
-        remote_key,
-        remote_amount,
-        local_key,
-        local_amount,
-    );
-    let local = share_by(
-        for_remote,
-        local_key,
-        local_amount,
-        remote_key,
-        remote_amount,
-    );
+    let shares = first_shares(for_remote, lent);
     out[0] = n as u8;
-    put_first_tlcs(h, for_remote, tlcs, out);
-    put(out, size - SHARES, &remote);
-    put(out, size - SHARE_LEN, &local);
-    Written::Bytes(size)
+    put_first_tlcs(h, for_remote, lent.tlcs, out);
+    put(out, size - SHARES, &shares.remote);
+    put(out, size - SHARE_LEN, &shares.local);
+    Ok(size)
 }

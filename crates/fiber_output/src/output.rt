@@ -1,26 +1,37 @@
 // What is handed out with a choice: the unlock, the state before it and the new lock args, joined in the output.
-ghost use Rattle.std.specs.Prelude.{◌≡◌, true, false, ◌⊎◌, ◌+◌, ◌-◌, ◌*◌, ◌≤◌, ◌<◌, length, take, drop};
-ghost use mathlib.Core.List.{[], ◌∷◌, ◌++◌, flatten};
+ghost use Rattle.std.specs.Prelude.{◌≡◌, false, ◌⊎◌, ◌+◌, ◌-◌, ◌*◌, ◌≤◌, length, take, drop};
+ghost use mathlib.Core.List.{◌∷◌, [], ◌++◌, flatten};
 ghost use Rattle.std.proofs.lemmas.List.Edits.{sets};
 ghost use Rattle.fiber_blake2b.specs.Blake2b.{ckb_hash};
-ghost use Rattle.fiber_types.specs.Records.{Gives, valid_hash_len, witness_len};
+ghost use Rattle.fiber_types.specs.Records.{Gives, witness_len};
+ghost use Rattle.fiber_witness.specs.Witness.{state_bytes};
+ghost use Rattle.fiber_witness.specs.Update.{keep};
+ghost use Rattle.fiber_witness.specs.inner.Marks.{marked};
+ghost use Rattle.fiber_witness.specs.inner.Strided.{Fronts};
 ghost use Rattle.fiber_choice.specs.Entries.{entries, tracked_len, tracked_records, pair_len};
 ghost use Rattle.fiber_choice.specs.HandedOut as S;
 ghost use Rattle.fiber_choice.specs.inner.Plan.{plan_of, plan_after, plan_unlock, joined, Below, Within};
 
+use crate::lent::Lent;
 use fiber_bytes::{part_of, put};
-use fiber_choice::kinds::{Choice, ChoiceAnswer, Decision, Delay, Key, Plan, Side, Way};
+use fiber_choice::kinds::{Choice, Chosen, Decision, NoChoice, Plan, Side, Way};
+use fiber_refusal::Refusal;
 use fiber_types::blake2b::ckb_hash;
+use fiber_types::epoch::Epoch;
+use fiber_types::hash_len::HashLen;
 use fiber_types::layout::{
-    PAIR, PAIR_PREIMAGE, RECORD_FIXED, SHARE_AMOUNT, STATE_FIXED, TRACKED_FIXED, TRACKED_RECORD,
-    UNLOCK, UNLOCK_LOCAL, UNLOCK_REMOTE, UNLOCK_WITH_PREIMAGE,
+    PAIR, PAIR_PREIMAGE, SHARE_AMOUNT, STATE_FIXED, TRACKED_RECORD, UNLOCK, UNLOCK_LOCAL,
+    UNLOCK_REMOTE, UNLOCK_WITH_PREIMAGE,
 };
-use fiber_types::tlc::{Amount, TlcRead, amount_at};
+use fiber_types::tlc::{Amount, amount_at};
+use fiber_types::unlock;
 use fiber_types::unlock::Unlock;
-use fiber_types::{tlc, unlock};
-use fiber_witness::state::{one_mark, put_state};
-use fiber_witness::unlocks::no_marks;
+use fiber_witness::marks::{Marks, no_marks, one_mark};
+use fiber_witness::records::Records;
+use fiber_witness::shares::Shares;
+use fiber_witness::state::put_state;
 
+#[tactic(auto, unfolding(fiber_choice::specs::inner::Plan::plan_of, fiber_choice::specs::HandedOut::choice_byte))]
 fn plan_of(choice: Choice, n: usize) -> Plan
     ensures { result ≡ plan_of n choice }
 {
@@ -64,44 +75,53 @@ fn plan_of(choice: Choice, n: usize) -> Plan
     }
 }
 
+// How many TLCs are tracked.
+#[tactic(auto, using(fiber_choice::proofs::EntriesLaws::tracked_count))]
+fn tracked_count(lent: &Lent<'_>) -> usize
+    ensures { result ≡ length (entries (tracked_len lent.now.h.bytes) lent.now.tracked.now) }
+{
+    lent.tracked.len() / lent.h.tracked_len()
+}
+
+// Writes the state of the tracked TLCs that are not marked, and of shares, to the front of out; answers its length.
+#[tactic(auto, using(fiber_choice::proofs::HandedLaws::tracked_room, fiber_choice::proofs::HandedLaws::unmarked_tracked))]
+fn put_tracked(lent: &Lent<'_>, settled: [bool; 256], shares: &Shares, out: &mut [u8]) -> usize
+    requires { 73 + length (flatten (keep (marked settled) 0 (tracked_records (entries (tracked_len lent.now.h.bytes) lent.now.tracked.now)))) ≤ length out.old }
+    ensures { Fronts (state_bytes (keep (marked settled) 0 (tracked_records (entries (tracked_len lent.now.h.bytes) lent.now.tracked.now)))
+        shares.now.remote shares.now.local) out.old result out.new }
+{
+    let marks = Marks {
+        settled,
+        n: tracked_count(lent),
+    };
+    let records = Records {
+        source: lent.tracked,
+        from: TRACKED_RECORD,
+        stride: lent.h.tracked_len(),
+        h: lent.h,
+        marks: &marks,
+    };
+    put_state(&records, shares, out)
+}
+
 // Writes the state after the unlock to the front of out, and answers its CKB hash. The state before it, which is no shorter, is
 // written over it afterwards.
-fn hash_after(
-    h: usize,
-    tracked: &[u8],
-    remote: &[u8],
-    local: &[u8],
-    p: Plan,
-    out: &mut [u8],
-) -> [u8; 32]
-    requires h_bound { (h ≤ 32) × ((length remote.now ≡ 36) × (length local.now ≡ 36)) }
-    requires tracked_len_bound { (length (entries (tracked_len h) tracked.now) ≤ 254) × (p.skip ≤ 255) }
-    requires tracked_in_bounds { 73 + length (flatten (tracked_records (entries (tracked_len h) tracked.now))) ≤ length out.old }
-    ensures value { result ≡ ckb_hash (plan_after (tracked_records (entries (tracked_len h) tracked.now)) remote.now local.now p) }
-    ensures out_after { out.new ≡ sets out.old 0
-        (plan_after (tracked_records (entries (tracked_len h) tracked.now)) remote.now local.now p) }
+#[tactic(auto, using(fiber_choice::proofs::HandedLaws::keep_small, fiber_witness::proofs::WitnessLaws::state_size, fiber_witness::proofs::UpdateLaws::keep_marked, fiber_choice::proofs::HandedLaws::front_back), unfolding(fiber_choice::specs::inner::Plan::plan_after))]
+fn hash_after(lent: &Lent<'_>, p: Plan, out: &mut [u8]) -> [u8; 32]
+    requires skip_bound { p.skip ≤ 255 }
+    requires tracked_in_bounds { 73 + length (flatten (tracked_records (entries (tracked_len lent.now.h.bytes) lent.now.tracked.now))) ≤ length out.old }
+    ensures value { result ≡ ckb_hash (plan_after (tracked_records (entries (tracked_len lent.now.h.bytes) lent.now.tracked.now))
+        lent.now.shares.remote lent.now.shares.local p) }
+    ensures out_after { out.new ≡ sets out.old 0 (plan_after (tracked_records (entries (tracked_len lent.now.h.bytes) lent.now.tracked.now))
+        lent.now.shares.remote lent.now.shares.local p) }
 {
-    let n = tracked.len() / (TRACKED_FIXED + h);
-    let count = if p.skip < n { n - 1 } else { n };
-    let marks = one_mark(p.skip);
-    let size = put_state(
-        tracked,
-        TRACKED_RECORD,
-        TRACKED_FIXED + h,
-        h,
-        n,
-        marks,
-        count,
-        remote,
-        p.remote,
-        local,
-        p.local,
-        out,
-    );
-    ckb_hash(&out[0..size])
+    let shares = lent.shares.left(p.remote, p.local);
+    let size = put_tracked(lent, one_mark(p.skip), &shares, out);
+    ckb_hash(&out[..size])
 }
 
 // The unlock, with 65 zeros for the signature, at the front of the output.
+#[tactic(auto, using(fiber_choice::proofs::HandedLaws::unlock_plain, fiber_choice::proofs::HandedLaws::unlock_paired))]
 fn put_unlock(preimages: &[u8], p: Plan, out: &mut [u8])
     requires byte_bound { (p.byte ≤ 255) × (99 ≤ length out.old) }
     requires pair_whole { (64 * p.pair_place + 64 ≤ length preimages.now) ⊎ (p.flag ≡ false) }
@@ -111,22 +131,19 @@ fn put_unlock(preimages: &[u8], p: Plan, out: &mut [u8])
         byte: p.byte as u8,
         flag: p.flag,
     };
-    let signature = [0u8; 65];
-    if p.flag {
-        unlock::write(
-            u,
-            &signature,
-            part_of(preimages, PAIR * p.pair_place + PAIR_PREIMAGE, 32),
-            out,
-        );
+    let signature = [0; 65];
+    // Both parts have their lengths, and the output has room, so that the unlock is written.
+    let _ = if p.flag {
+        let preimage = part_of(preimages, PAIR * p.pair_place + PAIR_PREIMAGE, 32);
+        unlock::write(u, &signature, preimage, out)
     } else {
-        unlock::write(u, &signature, part_of(preimages, 0, 0), out);
-    }
+        unlock::write(u, &signature, &[], out)
+    };
 }
 
 // The new args: args 0 to 35, the first 20 bytes of the state's hash, 0x01, args from byte 57.
-fn put_args(args: &[u8], hash: &[u8], out: &mut [u8], at: usize)
-    requires in_bounds { (36 ≤ length args.now) × (length hash.now ≡ 32) }
+fn put_args(args: &[u8], hash: &[u8; 32], out: &mut [u8], at: usize)
+    requires args_long { 36 ≤ length args.now }
     requires at_in_bounds { (at + 57 ≤ length out.old) × (at + length args.now ≤ length out.old) }
     ensures { out.new ≡ sets out.old at
         (take 36 args.now ++ take 20 hash.now ++ (1 ∷ []) ++ drop 57 args.now) }
@@ -148,132 +165,89 @@ fn unlock_size(flag: bool) -> usize
 fn new_args_len(args: &[u8]) -> usize
     ensures { result ≡ 57 + (length args.now - 57) }
 {
-    if args.len() < 57 { 57 } else { args.len() }
+    args.len().max(57)
 }
 
 // The three parts, joined, in an output that has room for them.
-fn put_joined(
-    h: usize,
-    args: &[u8],
-    tracked: &[u8],
-    preimages: &[u8],
-    remote: &[u8],
-    local: &[u8],
-    p: Plan,
-    out: &mut [u8],
-)
-    requires h_bound { (h ≤ 32) × ((length remote.now ≡ 36) × (length local.now ≡ 36)) }
-    requires tracked_len_bound { (length (entries (tracked_len h) tracked.now) ≤ 254) × ((36 ≤ length args.now) × (p.byte ≤ 255)) }
-    requires pair_whole { ((64 * p.pair_place + 64 ≤ length preimages.now) ⊎ (p.flag ≡ false)) × (p.skip ≤ 255) }
-    requires p_in_bounds { length
-        (joined args.now (entries (tracked_len h) tracked.now) (entries pair_len preimages.now) remote.now local.now p) ≤
-        length out.old }
-    ensures { out.new ≡ sets out.old 0 (joined args.now
-        (entries (tracked_len h) tracked.now) (entries pair_len preimages.now) remote.now
-        local.now p) }
+#[tactic(auto, using(fiber_choice::proofs::HandedLaws::joined_size, fiber_choice::proofs::HandedLaws::unmarked_all, fiber_witness::proofs::WitnessLaws::state_size))]
+fn put_joined(lent: &Lent<'_>, p: Plan, out: &mut [u8])
+    requires plan_bound { (p.byte ≤ 255) × (p.skip ≤ 255) }
+    requires pair_whole { (64 * p.pair_place + 64 ≤ length lent.now.preimages.now) ⊎ (p.flag ≡ false) }
+    requires p_in_bounds { length (joined lent.now.args.now (entries (tracked_len lent.now.h.bytes) lent.now.tracked.now)
+        (entries pair_len lent.now.preimages.now) lent.now.shares.remote lent.now.shares.local p) ≤ length out.old }
+    ensures { out.new ≡ sets out.old 0 (joined lent.now.args.now (entries (tracked_len lent.now.h.bytes) lent.now.tracked.now)
+        (entries pair_len lent.now.preimages.now) lent.now.shares.remote lent.now.shares.local p) }
 {
-    let n = tracked.len() / (TRACKED_FIXED + h);
     let at = unlock_size(p.flag);
-    put_unlock(preimages, p, out);
-    let hash = hash_after(h, tracked, remote, local, p, &mut out[at..]);
-    let marks = no_marks();
-    let size = put_state(
-        tracked,
-        TRACKED_RECORD,
-        TRACKED_FIXED + h,
-        h,
-        n,
-        marks,
-        n,
-        remote,
-        false,
-        local,
-        false,
-        &mut out[at..],
-    );
-    put_args(args, &hash, out, at + size);
+    put_unlock(lent.preimages, p, out);
+    let hash = hash_after(lent, p, &mut out[at..]);
+    let size = put_tracked(lent, no_marks(), &lent.shares, &mut out[at..]);
+    put_args(lent.args, &hash, out, at + size);
 }
 
-// The amount of a share, or of the TLC at a place. Its record is whole, so that its reader never turns it down.
-fn amount_of(h: usize, tracked: &[u8], remote: &[u8], local: &[u8], choice: Choice) -> Amount
-    requires h_value { (valid_hash_len h ≡ true) × ((length remote.now ≡ 36) × (length local.now ≡ 36)) }
-    requires below { Below (length (entries (tracked_len h) tracked.now)) choice }
-    ensures { result ≡ S.choice_amount (tracked_records (entries (tracked_len h) tracked.now)) remote.now local.now choice }
+// The amount of a share, or of the TLC at a place, behind the type in its record.
+#[tactic(auto, using(fiber_choice::proofs::HandedLaws::tracked_room, fiber_choice::proofs::HandedLaws::tracked_amount), unfolding(fiber_choice::specs::HandedOut::choice_amount, fiber_choice::specs::inner::Plan::Below))]
+fn amount_of(lent: &Lent<'_>, choice: Choice) -> Amount
+    requires { Below (length (entries (tracked_len lent.now.h.bytes) lent.now.tracked.now)) choice }
+    ensures { result ≡ S.choice_amount (tracked_records (entries (tracked_len lent.now.h.bytes) lent.now.tracked.now))
+        lent.now.shares.remote lent.now.shares.local choice }
 {
     match choice {
-        Choice::Share(side) => match side {
-            Side::Remote => amount_at(remote, SHARE_AMOUNT),
-            Side::Local => amount_at(local, SHARE_AMOUNT),
-        },
+        Choice::Share(Side::Remote) => amount_at(&lent.shares.remote, SHARE_AMOUNT),
+        Choice::Share(Side::Local) => amount_at(&lent.shares.local, SHARE_AMOUNT),
         Choice::Tlc { place, way: _ } => {
-            match tlc::read(h, tracked, place * (TRACKED_FIXED + h) + TRACKED_RECORD) {
-                TlcRead::Whole(tlc) => tlc.amount,
-                TlcRead::Refused {
-                    number: _,
-                    place: _,
-                } => Amount { low: 0, high: 0 },
-            }
+            let record = place * lent.h.tracked_len() + TRACKED_RECORD;
+            amount_at(lent.tracked, record + 1)
         }
     }
 }
 
 // The length of the record that goes with a choice: none with a share.
-fn record_size(h: usize, choice: Choice) -> usize
-    requires { h ≤ 32 }
-    ensures { result ≡ S.record_size h choice }
+#[tactic(auto, unfolding(fiber_choice::specs::HandedOut::record_size))]
+fn record_size(h: HashLen, choice: Choice) -> usize
+    ensures { result ≡ S.record_size h.bytes choice }
 {
     match choice {
         Choice::Share(_) => 0,
-        Choice::Tlc { place: _, way: _ } => RECORD_FIXED + h,
+        Choice::Tlc { place: _, way: _ } => h.record_len(),
     }
 }
 
 // The unlock, the state before it and the new args go to the output, joined: 13 at their length where they have no room.
+#[tactic(auto, using(fiber_choice::proofs::HandedLaws::plan_byte, fiber_choice::proofs::HandedLaws::plan_skip, fiber_choice::proofs::HandedLaws::plan_pair, fiber_choice::proofs::HandedLaws::joined_size, fiber_choice::proofs::HandedLaws::tlcs_flat), unfolding(fiber_choice::specs::inner::Plan::Within))]
 pub fn write_output(
-    h: usize,
-    args: &[u8],
-    tracked: &[u8],
-    preimages: &[u8],
-    remote: [u8; 36],
-    local: [u8; 36],
+    lent: &Lent<'_>,
     last: bool,
-    choice: Choice,
-    key: Key,
-    delay: Delay,
+    chosen: Chosen,
+    delay: Option<Epoch>,
     place: usize,
     out: &mut [u8],
-) -> ChoiceAnswer
-    requires h_value { (valid_hash_len h ≡ true) × ((length (entries (tracked_len h) tracked.now) ≤ 254) × (36 ≤ length args.now)) }
-    requires within { Within (length (entries (tracked_len h) tracked.now)) (length (entries pair_len preimages.now)) choice }
-    ensures { Gives
-        (S.handed_out h args.now (entries (tracked_len h) tracked.now) (entries pair_len preimages.now)
-        remote local last choice key delay place out.old)
+) -> Result<Decision, NoChoice>
+    requires { Within (length (entries (tracked_len lent.now.h.bytes) lent.now.tracked.now)) (length (entries pair_len lent.now.preimages.now)) chosen.choice }
+    ensures { Gives (S.handed_out lent.now.h.bytes lent.now.args.now (entries (tracked_len lent.now.h.bytes) lent.now.tracked.now)
+        (entries pair_len lent.now.preimages.now) lent.now.shares.remote lent.now.shares.local last chosen.choice chosen.key delay place out.old)
         result out.new }
 {
-    let n = tracked.len() / (TRACKED_FIXED + h);
-    let p = plan_of(choice, n);
+    let n = tracked_count(lent);
+    let p = plan_of(chosen.choice, n);
     let unlock_len = unlock_size(p.flag);
-    let state_len = STATE_FIXED + n * (RECORD_FIXED + h);
-    let args_len = new_args_len(args);
+    let state_len = STATE_FIXED + n * lent.h.record_len();
+    let args_len = new_args_len(lent.args);
     let size = unlock_len + state_len + args_len;
     if out.len() < size {
-        return ChoiceAnswer::Refused {
-            number: 13,
-            place: size,
-        };
+        return Err(NoChoice::Refused(Refusal::OutputShort(size)));
     }
-    put_joined(h, args, tracked, preimages, &remote, &local, p, out);
-    let amount = amount_of(h, tracked, &remote, &local, choice);
-    ChoiceAnswer::Chosen(Decision {
-        choice,
-        amount,
-        key,
+    put_joined(lent, p, out);
+    Ok(Decision {
+        choice: chosen.choice,
+        amount: amount_of(lent, chosen.choice),
+        key: chosen.key,
         delay,
         unlock_len,
         state_len,
         args_len,
         place,
-        len: record_size(h, choice),
+        len: record_size(lent.h, chosen.choice),
         last,
     })
 }

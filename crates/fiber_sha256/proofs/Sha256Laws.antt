@@ -4,23 +4,19 @@ use Rattle.std.proofs.Common.{◌≡◌, ℕ, zero, suc, ◌+◌, ◌-◌, ◌*�
 use mathlib.Core.List.{flat_map}
 use lib.ListN.{length-replicate, replicate-append-replicate}
 use lib.Seq.{sets, drop-append-le, take-append-le, append_snoc, set_at}
-use lib.Pow.{mod-pow-add}
 use Rattle.fiber_bytes.specs.Bytes.{part, be, be_bytes}
+use Rattle.std.specs.Int.{w32, w64, to_be_bytes}
+use native.Mathlib.Nat.{div-div-eq-div-mul}
+use Rattle.std.proofs.Common.{subst, min}
+use Rattle.fiber_bytes.proofs.ArraysLaws.{written}
 use Rattle.fiber_bytes.proofs.BytesLaws.{take_within, each_end}
 use Rattle.fiber_sha256.specs.Sha256.{constants, ch, maj, sum0, sum1, sig0, sig1, padded, loaded, extended, t1, t2, turned, turns, folded, compressed, absorbed, sha256}
 
-pub add4_by : (a b c d p q r : ℕ) → p ≡ (a + b) % 2 ^ 32 → q ≡ (p + c) % 2 ^ 32 → r ≡ (q + d) % 2 ^ 32 → r ≡ (a + b + c + d) % 2 ^ 32
-add4_by a b c d p q r e f g =
-    let h : q ≡ (a + b + c) % 2 ^ 32 = add_by (a + b) c p q e f in
-    add_by (a + b + c) d q r h g
-  where
-    add_by : (m d q r : ℕ) → q ≡ m % 2 ^ 32 → r ≡ (q + d) % 2 ^ 32 → r ≡ (m + d) % 2 ^ 32
-    add_by m d q r e f = omega arith
-
-pub t1_by : (v : List ℕ) (k w p b c r : ℕ) → b ≡ sum1 (get_or v 4 0) → c ≡ ch (get_or v 4 0) (get_or v 5 0) (get_or v 6 0) → p ≡ (get_or v 7 0 + b + c + k) % 2 ^ 32 → r ≡ (p + w) % 2 ^ 32 → r ≡ t1 v k w
+pub t1_by : (v : List ℕ) (k w b c r : ℕ) → b ≡ sum1 (get_or v 4 0) → c ≡ ch (get_or v 4 0) (get_or v 5 0) (get_or v 6 0)
+    → r ≡ ((((get_or v 7 0 + b) % 2 ^ 32 + c) % 2 ^ 32 + k) % 2 ^ 32 + w) % 2 ^ 32 → r ≡ t1 v k w
 unfolding t1
-t1_by v k w p b c r e f g h =
-    let d : r ≡ (get_or v 7 0 + b + c + k + w) % 2 ^ 32 = omega (arith, g, h) in
+t1_by v k w b c r e f h =
+    let d : r ≡ (get_or v 7 0 + b + c + k + w) % 2 ^ 32 = omega (arith, h) in
     rw (e, f) at d
 
 pub t2_by : (v : List ℕ) (a b r : ℕ) → a ≡ sum0 (get_or v 0 0) → b ≡ maj (get_or v 0 0) (get_or v 1 0) (get_or v 2 0) → r ≡ (a + b) % 2 ^ 32 → r ≡ t2 v
@@ -44,46 +40,52 @@ kept w i j (suc m) h =
     rw suc-add
     (get_or-set_other (extended (m + i) w) (m + i + 16) j _ 0 (λ e. omega arith) ∙ kept w i j m h)
 
-pub step_by : (v₀ w₀ v w u : List ℕ) (i a b r : ℕ) → i < 48 → a ≡ sig1 (get_or w (i + 14) 0) → b ≡ sig0 (get_or w (i + 1) 0) → r ≡ (a + get_or w (i + 9) 0 + b + get_or w i 0) % 2 ^ 32
-    → u ≡ turned v (get_or constants i 0) (get_or (set w (i + 16) r) i 0) → (w ≡ extended i w₀) × (v ≡ turns i v₀ (extended 48 w₀))
-    → (set w (i + 16) r ≡ extended (i + 1) w₀) × (u ≡ turns (i + 1) v₀ (extended 48 w₀))
+-- a turn with a word of the schedule beside it
+pub step_by : (v₀ w₀ v w w' u : List ℕ) (i a b r : ℕ) → i < 48 → a ≡ sig1 (get_or w (i + 14) 0) → b ≡ sig0 (get_or w (i + 1) 0)
+    → r ≡ (((a + get_or w (i + 9) 0) % 2 ^ 32 + b) % 2 ^ 32 + get_or w i 0) % 2 ^ 32
+    → w' ≡ set w (i + 16) r → u ≡ turned v (get_or constants i 0) (get_or w' i 0) → (w ≡ extended (min i 48) w₀) × (v ≡ turns i v₀ (extended 48 w₀))
+    → (w' ≡ extended (min (i + 1) 48) w₀) × (u ≡ turns (i + 1) v₀ (extended 48 w₀))
 unfolding extended
-step_by v₀ w₀ v w u i a b r l e f g t h =
+step_by v₀ w₀ v w w' u i a b r l e f g s t h =
     let n : 48 - (i + 1) + (i + 1) ≡ 48 = omega arith in
-    let x : set w (i + 16) r ≡ extended (i + 1) w₀ = rw add-one (cc) in
+    let m : min i 48 ≡ i = omega arith in
+    let o : min (i + 1) 48 ≡ suc i = omega arith in
+    let p : w ≡ extended i w₀ = h.0 ∙ ap (λ (j : ℕ). extended j w₀) m in
+    let q : r ≡ (a + get_or w (i + 9) 0 + b + get_or w i 0) % 2 ^ 32 = omega (arith, g) in
+    let x : w' ≡ extended (suc i) w₀ = cc in
     let d : get_or (extended (48 - (i + 1) + (i + 1)) w₀) i 0 ≡ get_or (extended (i + 1) w₀) i 0 = kept w₀ (i + 1) i (48 - (i + 1)) (omega arith) in
-    let k : get_or (set w (i + 16) r) i 0 ≡ get_or (extended 48 w₀) i 0 = cc in
-    (x, turns_more v₀ (extended 48 w₀) v u i (t ∙ ap (turned v (get_or constants i 0)) k) h.1)
+    let k : get_or w' i 0 ≡ get_or (extended 48 w₀) i 0 = cc (add-one i) in
+    (x ∙ ap (λ (j : ℕ). extended j w₀) (sym o), turns_more v₀ (extended 48 w₀) v u i (t ∙ ap (turned v (get_or constants i 0)) k) h.1)
 
--- two steps of whatever a step keeps, and four steps of two
-pub two_by : (P : ℕ → List ℕ → List ℕ → Type 0) (i : ℕ) (v a b v' a' b' : List ℕ) → (P i v v' → P (i + 1) a a') → (P (i + 1) a a' → P (i + 1 + 1) b b') → P i v v' → P (i + 2) b b'
-two_by P i v a b v' a' b' s₁ s₂ p =
-    let e : i + 1 + 1 ≡ i + 2 = omega arith in
-    rw e at (s₂ (s₁ p))
+-- a turn alone: all words are made
+pub turn_by : (v₀ w₀ v w w' u : List ℕ) (i : ℕ) → 48 ≤ i → w' ≡ w → u ≡ turned v (get_or constants i 0) (get_or w' i 0) → (w ≡ extended (min i 48) w₀) × (v ≡ turns i v₀ (extended 48 w₀))
+    → (w' ≡ extended (min (i + 1) 48) w₀) × (u ≡ turns (i + 1) v₀ (extended 48 w₀))
+turn_by v₀ w₀ v w w' u i l s t h =
+    let m : min i 48 ≡ 48 = omega arith in
+    let o : min (i + 1) 48 ≡ 48 = omega arith in
+    let p : w' ≡ extended 48 w₀ = s ∙ h.0 ∙ ap (λ (j : ℕ). extended j w₀) m in (
+      p ∙ ap (λ (j : ℕ). extended j w₀) (sym o),
+      turns_more v₀ (extended 48 w₀) v u i (t ∙ ap (λ (y : List ℕ). turned v (get_or constants i 0) (get_or y i 0)) p) h.1,
+    )
 
-pub eight_by : (P : ℕ → List ℕ → List ℕ → Type 0) (i : ℕ) (v a b c d v' a' b' c' d' : List ℕ)
-    → (P i v v' → P (i + 2) a a') → (P (i + 2) a a' → P (i + 2 + 2) b b') → (P (i + 4) b b' → P (i + 4 + 2) c c') → (P (i + 6) c c' → P (i + 6 + 2) d d') → P i v v' → P (i + 8) d d'
-eight_by P i v a b c d v' a' b' c' d' s₁ s₂ s₃ s₄ p =
-    let e : i + 2 + 2 ≡ i + 4 = omega arith in
-    let f : i + 4 + 2 ≡ i + 6 = omega arith in
-    let g : i + 6 + 2 ≡ i + 8 = omega arith in
-    rw g at (s₄ (rw f at (s₃ (rw e at (s₂ (s₁ p))))))
+-- eight steps of whatever a step keeps
+pub eight_by : (P : ℕ → List ℕ → List ℕ → Type 0) (i : ℕ) {v₀ v₁ v₂ v₃ v₄ v₅ v₆ v₇ v₈ w₀ w₁ w₂ w₃ w₄ w₅ w₆ w₇ w₈ : List ℕ}
+    → (P i v₀ w₀ → P (i + 1) v₁ w₁) → (P (i + 1) v₁ w₁ → P (i + 1 + 1) v₂ w₂) → (P (i + 2) v₂ w₂ → P (i + 2 + 1) v₃ w₃) → (P (i + 3) v₃ w₃ → P (i + 3 + 1) v₄ w₄)
+    → (P (i + 4) v₄ w₄ → P (i + 4 + 1) v₅ w₅) → (P (i + 5) v₅ w₅ → P (i + 5 + 1) v₆ w₆) → (P (i + 6) v₆ w₆ → P (i + 6 + 1) v₇ w₇) → (P (i + 7) v₇ w₇ → P (i + 7 + 1) v₈ w₈)
+    → P i v₀ w₀ → P (i + 8) v₈ w₈
+eight_by P i s₁ s₂ s₃ s₄ s₅ s₆ s₇ s₈ p =
+    next 7 (s₈ (next 6 (s₇ (next 5 (s₆ (next 4 (s₅ (next 3 (s₄ (next 2 (s₃ (next 1 (s₂ (s₁ p))))))))))))))
+  where
+    next : (k : ℕ) {v w : List ℕ} → P (i + k + 1) v w → P (i + (k + 1)) v w
+    next k {v} {w} p =
+        let e : i + k + 1 ≡ i + (k + 1) = omega arith in
+        subst (λ (n : ℕ). P n v w) e p
 
-pub run_more : (v₀ w₀ v w : List ℕ) (i : ℕ) → (w ≡ extended (8 * i + 8) w₀) × (v ≡ turns (8 * i + 8) v₀ (extended 48 w₀)) → (w ≡ extended (8 * (i + 1)) w₀) × (v ≡ turns (8 * (i + 1)) v₀ (extended 48 w₀))
-run_more v₀ w₀ v w i h =
-    let e : 8 * i + 8 ≡ 8 * (i + 1) = omega arith in
-    rw e at h
-
-pub run_by : (v₀ w₀ v w a b : List ℕ) (i : ℕ) → i ≡ 6 → (w ≡ extended (8 * i) w₀) × (v ≡ turns (8 * i) v₀ (extended 48 w₀))
-    → ((u : List ℕ) → v ≡ turns 48 u w → a ≡ turns 56 u w) → ((u : List ℕ) → a ≡ turns 56 u w → b ≡ turns 64 u w) → b ≡ turns 64 v₀ (extended 48 w₀)
-run_by v₀ w₀ v w a b i e h f g =
-    let l : w ≡ extended 48 w₀ = (rw e at h).0 in
-    let m : v ≡ turns 48 v₀ w = (rw e at h).1 ∙ ap (turns 48 v₀) (sym l) in
-    g v₀ (f v₀ m) ∙ ap (turns 64 v₀) l
-
-pub folded_more : (h₀ v h : List ℕ) (i r : ℕ) → h ≡ folded i h₀ v → r ≡ (get_or h i 0 + get_or v i 0) % 2 ^ 32 → set h i r ≡ folded (i + 1) h₀ v
+pub folded_by : (r h v : List ℕ) → length r ≡ 8 → length h ≡ 8 → ((i : ℕ) → i < 8 → get_or r i 0 ≡ (get_or h i 0 + get_or v i 0) % 2 ^ 32) → r ≡ folded 8 h v
 unfolding folded
-folded_more h₀ v h i r e f = rw add-one (cc)
+folded_by r h v n m e =
+    written r h (λ i x. (x + get_or v i 0) % 2 ^ 32) (λ i. folded i h v) refl (λ i. refl) (n ∙ sym m) (λ i l. e i (omega arith))
+    ∙ ap (λ (k : ℕ). folded k h v) n
 
 pub loaded_more : (p w : List ℕ) (at i r : ℕ) → w ≡ loaded i p at → r ≡ be (part p (at + 4 * i) 4) → set w i r ≡ loaded (i + 1) p at
 unfolding loaded
@@ -92,11 +94,11 @@ loaded_more p w at i r e f = rw add-one (cc)
 part_cons : (s : List ℕ) (at n m : ℕ) → at < length s → at + 1 ≡ m → part s at (suc n) ≡ get_or s at 0 ∷ part s m n
 part_cons s at n m h e = ap (take (suc n)) (drop-cons s at 0 h) ∙ ap (λ (k : ℕ). get_or s at 0 ∷ part s k n) (sym (add-one at) ∙ e)
 
-pub word_by : (s : List ℕ) (at a b c d : ℕ) → at + 4 ≤ length s → a ≡ get_or s at 0 → b ≡ get_or s (at + 1) 0 → c ≡ get_or s (at + 2) 0 → d ≡ get_or s (at + 3) 0
-    → 2 ^ 24 * a + 2 ^ 16 * b + 2 ^ 8 * c + d ≡ be (part s at 4)
+pub word_by : (s : List ℕ) (at : ℕ) → at + 4 ≤ length s
+    → get_or s at 0 * 256 ^ 3 + get_or s (at + 1) 0 * 256 ^ 2 + get_or s (at + 2) 0 * 256 + get_or s (at + 3) 0 ≡ be (part s at 4)
 unfolding be
-word_by s at a b c d l ea eb ec ed =
-    let e : part s at 4 ≡ a ∷ b ∷ c ∷ d ∷ [] =
+word_by s at l =
+    let e : part s at 4 ≡ get_or s at 0 ∷ get_or s (at + 1) 0 ∷ get_or s (at + 2) 0 ∷ get_or s (at + 3) 0 ∷ [] =
     cc (part_cons s at 3 (at + 1) (omega arith) refl, part_cons s (at + 1) 2 (at + 2) (omega arith) (omega arith), part_cons s (at + 2) 1 (at + 3) (omega arith) (omega arith), part_cons s (at + 3) 0 (at + 4) (omega arith) (omega arith)) in
     rw e (omega arith)
 
@@ -164,15 +166,14 @@ module _ (s z t h k : List ℕ) (et : t ≡ drop (length s / 64 * 64) (padded s)
       let f : g ≡ absorbed (length s / 64 + 1 + 1) (padded s) = ended_more (padded s) z t k g (length s / 64 * 64) (length s / 64 + 1) 64 (omega arith) (omega (arith, padded_length s)) et once eg in
       cc
 
-pub put_by : (out : List ℕ) (at x : ℕ) → set (set (set (set out at (x / 2 ^ 24 % 256)) (at + 1) (x / 2 ^ 16 % 256)) (at + 2) (x / 2 ^ 8 % 256)) (at + 3) (x % 256) ≡ sets out at (be_bytes 4 x)
+-- `x.to_be_bytes()`
+pub be_bytes_four : (x : ℕ) → to_be_bytes w32 x ≡ be_bytes 4 x
 unfolding be_bytes
-put_by out at x =
-    let a : x / 2 ^ 24 ≡ x / 256 / 256 / 256 = omega arith in
-    let b : x / 2 ^ 16 ≡ x / 256 / 256 = omega arith in
-    let d : at + 1 ≡ suc at = add-one at in
-    let e : at + 2 ≡ suc (suc at) = omega arith in
-    let f : at + 3 ≡ suc (suc (suc at)) = omega arith in
-    cc
+be_bytes_four x = simp div-div-eq-div-mul
+
+pub be_bytes_eight : (x : ℕ) → to_be_bytes w64 x ≡ be_bytes 8 x
+unfolding be_bytes
+be_bytes_eight x = simp div-div-eq-div-mul
 
 -- bytes written where zeros stand
 filled : (vs p : List ℕ) (n k : ℕ) → length p ≡ n → sets (p ++ replicate (length vs + k) 0) n vs ≡ (p ++ vs) ++ replicate k 0
@@ -196,20 +197,6 @@ rest_copied s t at h g e =
     ∙ ap (sets (replicate 128 0) 0) (take_all (length s - at) (drop at s) (omega (arith, n)))
     ∙ filled_to (drop at s) [] 0 128 (128 - (length s - at)) refl (omega (arith, n))
 
--- eight bytes are two words' bytes
-bytes8 : (x : ℕ) → be_bytes 8 x ≡ be_bytes 4 (x / 2 ^ 32) ++ be_bytes 4 (x % 2 ^ 32)
-unfolding be_bytes
-bytes8 x =
-    let a : x / 256 / 256 / 256 / 256 ≡ x / 2 ^ 32 = omega arith in
-    let b : x % 2 ^ 32 / 256 ≡ x / 256 % 2 ^ 24 = omega arith in
-    let c : x / 256 % 2 ^ 24 / 256 ≡ x / 256 / 256 % 2 ^ 16 = omega arith in
-    let d : x / 256 / 256 % 2 ^ 16 / 256 ≡ x / 256 / 256 / 256 % 256 = omega arith in
-    let e : x % 2 ^ 32 % 256 ≡ x % 256 = omega arith in
-    let f : x / 256 % 2 ^ 24 % 256 ≡ x / 256 % 256 = omega arith in
-    let g : x / 256 / 256 % 2 ^ 16 % 256 ≡ x / 256 / 256 % 256 = omega arith in
-    let h : x / 256 / 256 / 256 % 256 % 256 ≡ x / 256 / 256 / 256 % 256 = omega arith in
-    cc
-
 pub word_length : (x : ℕ) → length (be_bytes 4 x) ≡ 4
 unfolding be_bytes
 word_length x = refl
@@ -217,41 +204,28 @@ word_length x = refl
 pub digest_all : (h r : List ℕ) (i : ℕ) → length h ≡ 8 → i ≡ 8 → length r ≡ 32 → take (4 * i) r ≡ flat_map (be_bytes 4) (take i h) → r ≡ flat_map (be_bytes 4) h
 digest_all h r i n e l g = each_end (be_bytes 4) 4 word_length h r 8 i (4 * i) e (omega arith) g ∙ ap (flat_map (be_bytes 4)) (take_all 8 h (omega arith))
 
--- bytes d, a one bit, z zeros, two words and k zeros, written one after the other
-ended : (d b c t u v w : List ℕ) (n z k e : ℕ) → length d ≡ n → length b ≡ 4 → length c ≡ 4 → e ≡ n + 1 + z
-    → t ≡ d ++ replicate (9 + z + k) 0 → u ≡ set t n 128 → v ≡ sets u e b → w ≡ sets v (e + 4) c
-    → w ≡ d ++ (128 ∷ (replicate z 0 ++ (b ++ c))) ++ replicate k 0
-ended d b c t u v w n z k e ld lb lc le et eu ev ew =
+-- bytes d, a one bit, z zeros, eight bytes and k zeros, written one after the other
+ended : (d b t u v : List ℕ) (n z k e : ℕ) → length d ≡ n → length b ≡ 8 → e ≡ n + 1 + z
+    → t ≡ d ++ replicate (9 + z + k) 0 → u ≡ set t n 128 → v ≡ sets u e b → v ≡ d ++ (128 ∷ (replicate z 0 ++ b)) ++ replicate k 0
+ended d b t u v n z k e ld lb le et eu ev =
     let f : u ≡ d ++ (128 ∷ []) ++ replicate (z + (8 + k)) 0 =
     eu ∙ ap (λ (l : List ℕ). set l n 128) et ∙ filled_to (128 ∷ []) d n (9 + z + k) (z + (8 + k)) ld (omega arith) in
     let g : u ≡ d ++ (128 ∷ []) ++ replicate z 0 ++ replicate (8 + k) 0 =
     f ∙ ap (λ (l : List ℕ). d ++ (128 ∷ []) ++ l) (sym (replicate-append-replicate z (8 + k) 0)) ∙ sym (append_assoc (d ++ (128 ∷ [])) (replicate z 0) (replicate (8 + k) 0)) in
     let m : length (d ++ (128 ∷ []) ++ replicate z 0) ≡ e = simp (length-append, length-replicate) (omega arith) in
-    let o : length (d ++ (128 ∷ []) ++ replicate z 0 ++ b) ≡ e + 4 = rw length-append (omega arith) in
-    let h : v ≡ d ++ (128 ∷ []) ++ replicate z 0 ++ b ++ replicate (4 + k) 0 =
-    ev ∙ ap (λ (l : List ℕ). sets l e b) g ∙ filled_to b (d ++ (128 ∷ []) ++ replicate z 0) e (8 + k) (4 + k) m (omega arith) in
-    let r : d ++ (128 ∷ []) ++ replicate z 0 ++ b ++ c ≡ d ++ (128 ∷ (replicate z 0 ++ (b ++ c))) = simp append_assoc in
-    ew ∙ ap (λ (l : List ℕ). sets l (e + 4) c) h ∙ filled_to c (d ++ (128 ∷ []) ++ replicate z 0 ++ b) (e + 4) (4 + k) k o (omega arith)
-    ∙ ap (λ (l : List ℕ). l ++ replicate k 0) r
+    let r : d ++ (128 ∷ []) ++ replicate z 0 ++ b ≡ d ++ (128 ∷ (replicate z 0 ++ b)) = simp append_assoc in
+    ev ∙ ap (λ (l : List ℕ). sets l e b) g ∙ filled_to b (d ++ (128 ∷ []) ++ replicate z 0) e (8 + k) k m (omega arith) ∙ ap (λ (l : List ℕ). l ++ replicate k 0) r
 
--- the upper half of the count of bits
-high : (n : ℕ) → 8 * n % 2 ^ 64 / 2 ^ 32 ≡ n / 2 ^ 29 % 2 ^ 32
-high n = omega (arith, mod-pow-add n 32 29)
-
-pub tail_by : (s t u v w : List ℕ) (q n e x y : ℕ) → q ≡ length s / 64 * 64 → n ≡ length s % 64 → e ≡ (n + 8) / 64 * 64 + 56
-    → x ≡ length s / 2 ^ 29 % 2 ^ 32 → y ≡ length s % 2 ^ 29 * 8
-    → t ≡ drop q s ++ replicate (128 - (length s - q)) 0 → u ≡ set t n 128 → v ≡ sets u e (be_bytes 4 x) → w ≡ sets v (e + 4) (be_bytes 4 y)
-    → w ≡ drop q (padded s) ++ replicate ((119 - length s % 64) / 64 * 64) 0
+pub tail_by : (s t u v : List ℕ) (q n e m : ℕ) → q ≡ length s / 64 * 64 → n ≡ length s % 64 → e ≡ (n + 8) / 64 * 64 + 56 → m ≡ length s * 8 % 2 ^ 64
+    → t ≡ drop q s ++ replicate (128 - (length s - q)) 0 → u ≡ set t n 128 → v ≡ sets u e (to_be_bytes w64 m)
+    → v ≡ drop q (padded s) ++ replicate ((119 - length s % 64) / 64 * 64) 0
 unfolding padded
-tail_by s t u v w q n e x y lq ln le lx ly et eu ev ew =
-    let m = 8 * length s % 2 ^ 64 in
+tail_by s t u v q n e m lq ln le lm et eu ev =
     let z = (119 - length s % 64) % 64 in
     let k = (119 - length s % 64) / 64 * 64 in
-    let i : x ≡ m / 2 ^ 32 = lx ∙ sym (high (length s)) in
-    let j : y ≡ m % 2 ^ 32 = omega arith in
-    let b : be_bytes 8 m ≡ be_bytes 4 x ++ be_bytes 4 y = cc (bytes8 m) in
+    let b : to_be_bytes w64 m ≡ be_bytes 8 (8 * length s % 2 ^ 64) = be_bytes_eight m ∙ ap (be_bytes 8) (omega arith) in
     let o : length (drop q s) ≡ n = rw length-drop (omega arith) in
     let r : 128 - (length s - q) ≡ 9 + z + k = omega arith in
-    let a : w ≡ drop q s ++ (128 ∷ (replicate z 0 ++ (be_bytes 4 x ++ be_bytes 4 y))) ++ replicate k 0 =
-    ended (drop q s) (be_bytes 4 x) (be_bytes 4 y) t u v w n z k e o (word_length x) (word_length y) (omega arith) (et ∙ ap (λ (c : ℕ). drop q s ++ replicate c 0) r) eu ev ew in
-    a ∙ ap (λ (c : List ℕ). c ++ replicate k 0) (ap (λ (c : List ℕ). drop q s ++ (128 ∷ (replicate z 0 ++ c))) (sym b) ∙ sym (drop-append-le q s _ (omega arith)))
+    let a : v ≡ drop q s ++ (128 ∷ (replicate z 0 ++ to_be_bytes w64 m)) ++ replicate k 0 =
+    ended (drop q s) (to_be_bytes w64 m) t u v n z k e o refl (omega arith) (et ∙ ap (λ (c : ℕ). drop q s ++ replicate c 0) r) eu ev in
+    a ∙ ap (λ (c : List ℕ). c ++ replicate k 0) (ap (λ (c : List ℕ). drop q s ++ (128 ∷ (replicate z 0 ++ c))) b ∙ sym (drop-append-le q s _ (omega arith)))

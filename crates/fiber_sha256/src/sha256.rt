@@ -2,13 +2,12 @@
 ghost use Rattle.std.specs.Prelude.{◌≡◌, ◌+◌, ◌-◌, ◌*◌, ◌/◌, ◌%◌, ◌^◌, ◌<◌, ◌≤◌, ◌++◌, length, drop, replicate, slice_index};
 ghost use mathlib.Core.List.{flat_map};
 ghost use Rattle.std.proofs.lemmas.List.Edits.{sets};
-ghost use Rattle.fiber_bytes.specs.Words.{rotated};
 ghost use Rattle.fiber_bytes.specs.Bytes.{part, be, be_bytes};
 ghost use Rattle.fiber_sha256.specs.Sha256 as S;
-ghost use Rattle.fiber_sha256.specs.inner.Runs.{Turned, Stepped};
+ghost use Rattle.fiber_sha256.specs.inner.Runs.{Stepped};
 
-use fiber_bytes::wide;
-use std::num::wrapping_add_u32;
+use fiber_bytes::put;
+use std::array;
 
 // 4.2.2
 const K: [u32; 64] = [
@@ -78,18 +77,23 @@ const K: [u32; 64] = [
     0xc671_78f2,
 ];
 
+// 5.3.3
+const INITIAL: [u32; 8] = [
+    0x6a09_e667,
+    0xbb67_ae85,
+    0x3c6e_f372,
+    0xa54f_f53a,
+    0x510e_527f,
+    0x9b05_688c,
+    0x1f83_d9ab,
+    0x5be0_cd19,
+];
+
 // A function, so that the table is written out in this one proof only.
 fn table() -> [u32; 64]
     ensures { result ≡ S.constants }
 {
     K
-}
-
-fn rotr(x: u32, k: u32) -> u32
-    requires { (0 < k) × (k < 32) }
-    ensures { result ≡ rotated 32 k x }
-{
-    (x >> k) | (x << (32 - k))
 }
 
 // 4.1.2. `ch` picks y where x has a bit and z where not; `maj` keeps y but where x and z agree against it.
@@ -109,44 +113,41 @@ fn maj(x: u32, y: u32, z: u32) -> u32
 fn sum0(x: u32) -> u32
     ensures { result ≡ S.sum0 x }
 {
-    rotr(x, 2) ^ rotr(x, 13) ^ rotr(x, 22)
+    x.rotate_right(2) ^ x.rotate_right(13) ^ x.rotate_right(22)
 }
 
 fn sum1(x: u32) -> u32
     ensures { result ≡ S.sum1 x }
 {
-    rotr(x, 6) ^ rotr(x, 11) ^ rotr(x, 25)
+    x.rotate_right(6) ^ x.rotate_right(11) ^ x.rotate_right(25)
 }
 
 fn sig0(x: u32) -> u32
     ensures { result ≡ S.sig0 x }
 {
-    rotr(x, 7) ^ rotr(x, 18) ^ (x >> 3)
+    x.rotate_right(7) ^ x.rotate_right(18) ^ (x >> 3)
 }
 
 fn sig1(x: u32) -> u32
     ensures { result ≡ S.sig1 x }
 {
-    rotr(x, 17) ^ rotr(x, 19) ^ (x >> 10)
-}
-
-fn add4(a: u32, b: u32, c: u32, d: u32) -> u32
-    ensures { result ≡ (a + b + c + d) % 2 ^ 32 }
-{
-    wrapping_add_u32(wrapping_add_u32(wrapping_add_u32(a, b), c), d)
+    x.rotate_right(17) ^ x.rotate_right(19) ^ (x >> 10)
 }
 
 // 6.2.2, step 3: T1, T2, and turn i of the working variables.
 fn t1(v: [u32; 8], k: u32, w: u32) -> u32
     ensures { result ≡ S.t1 v k w }
 {
-    wrapping_add_u32(add4(v[7], sum1(v[4]), ch(v[4], v[5], v[6]), k), w)
+    v[7].wrapping_add(sum1(v[4]))
+        .wrapping_add(ch(v[4], v[5], v[6]))
+        .wrapping_add(k)
+        .wrapping_add(w)
 }
 
 fn t2(v: [u32; 8]) -> u32
     ensures { result ≡ S.t2 v }
 {
-    wrapping_add_u32(sum0(v[0]), maj(v[0], v[1], v[2]))
+    sum0(v[0]).wrapping_add(maj(v[0], v[1], v[2]))
 }
 
 fn turn(v: [u32; 8], k: &[u32; 64], w: &[u32; 64], i: usize) -> [u32; 8]
@@ -155,56 +156,45 @@ fn turn(v: [u32; 8], k: &[u32; 64], w: &[u32; 64], i: usize) -> [u32; 8]
 {
     let a = t1(v, k[i], w[i]);
     let b = t2(v);
-    let x = wrapping_add_u32(a, b);
-    let y = wrapping_add_u32(v[3], a);
-    [x, v[0], v[1], v[2], y, v[4], v[5], v[6]]
+    [
+        a.wrapping_add(b),
+        v[0],
+        v[1],
+        v[2],
+        v[3].wrapping_add(a),
+        v[4],
+        v[5],
+        v[6],
+    ]
 }
 
-// Turn i, and word i + 16 of the schedule beside it (step 1): neither waits for the other.
+// Turn i, and word i + 16 of the schedule beside it (step 1), where there is one: neither waits for the other.
 fn step(v: [u32; 8], k: &[u32; 64], w: &mut [u32; 64], i: usize) -> [u32; 8]
-    requires { (i < 48) × (k.now ≡ S.constants) }
+    requires { (i < 64) × (k.now ≡ S.constants) }
     ensures { Stepped 1 i w.old v w.new result }
 {
-    w[i + 16] = add4(sig1(w[i + 14]), w[i + 9], sig0(w[i + 1]), w[i]);
+    if i < 48 {
+        w[i + 16] = sig1(w[i + 14])
+            .wrapping_add(w[i + 9])
+            .wrapping_add(sig0(w[i + 1]))
+            .wrapping_add(w[i]);
+    }
     turn(v, k, w, i)
-}
-
-fn two_steps(v: [u32; 8], k: &[u32; 64], w: &mut [u32; 64], i: usize) -> [u32; 8]
-    requires { (i + 2 ≤ 48) × (k.now ≡ S.constants) }
-    ensures { Stepped 2 i w.old v w.new result }
-{
-    let a = step(v, k, w, i);
-    step(a, k, w, i + 1)
 }
 
 // After eight turns each working variable has its register again: no moves.
 fn eight_steps(v: [u32; 8], k: &[u32; 64], w: &mut [u32; 64], i: usize) -> [u32; 8]
-    requires { (i + 8 ≤ 48) × (k.now ≡ S.constants) }
+    requires { (i + 8 ≤ 64) × (k.now ≡ S.constants) }
     ensures { Stepped 8 i w.old v w.new result }
 {
-    let a = two_steps(v, k, w, i);
-    let b = two_steps(a, k, w, i + 2);
-    let c = two_steps(b, k, w, i + 4);
-    two_steps(c, k, w, i + 6)
-}
-
-// The last 16 turns make no more words.
-fn two_turns(v: [u32; 8], k: &[u32; 64], w: &[u32; 64], i: usize) -> [u32; 8]
-    requires { (i + 2 ≤ 64) × (k.now ≡ S.constants) }
-    ensures { Turned 2 i w.now v result }
-{
-    let a = turn(v, k, w, i);
-    turn(a, k, w, i + 1)
-}
-
-fn eight_turns(v: [u32; 8], k: &[u32; 64], w: &[u32; 64], i: usize) -> [u32; 8]
-    requires { (i + 8 ≤ 64) × (k.now ≡ S.constants) }
-    ensures { Turned 8 i w.now v result }
-{
-    let a = two_turns(v, k, w, i);
-    let b = two_turns(a, k, w, i + 2);
-    let c = two_turns(b, k, w, i + 4);
-    two_turns(c, k, w, i + 6)
+    let v = step(v, k, w, i);
+    let v = step(v, k, w, i + 1);
+    let v = step(v, k, w, i + 2);
+    let v = step(v, k, w, i + 3);
+    let v = step(v, k, w, i + 4);
+    let v = step(v, k, w, i + 5);
+    let v = step(v, k, w, i + 6);
+    step(v, k, w, i + 7)
 }
 
 fn run(v: [u32; 8], w: &mut [u32; 64]) -> [u32; 8]
@@ -212,35 +202,27 @@ fn run(v: [u32; 8], w: &mut [u32; 64]) -> [u32; 8]
 {
     let k = table();
     let mut x = v;
-    for i in 0..6 {
+    // By the place of the first of eight steps, at which constants and schedule are read.
+    for i in 0..8 {
         let next = eight_steps(x, &k, w, 8 * i);
         x = next;
     }
-    let y = eight_turns(x, &k, w, 48);
-    eight_turns(y, &k, w, 56)
+    x
 }
 
 // Step 4.
 fn fold(h: [u32; 8], v: [u32; 8]) -> [u32; 8]
     ensures { result ≡ S.folded 8 h v }
 {
-    let mut r = h;
-    for i in 0..8 {
-        r[i] = wrapping_add_u32(r[i], v[i]);
-    }
-    r
+    array::from_fn(|i| h[i].wrapping_add(v[i]))
 }
 
-// 3.1: words are big-endian. The four loads become one.
+// 3.1: words are big-endian.
 fn word(s: &[u8], at: usize) -> u32
     requires { at + 4 ≤ length s.now }
     ensures { result ≡ be (part s.now at 4) }
 {
-    let x = 0x100_0000 * wide(s[at])
-        + 0x1_0000 * wide(s[at + 1])
-        + 0x100 * wide(s[at + 2])
-        + wide(s[at + 3]);
-    x as u32
+    u32::from_be_bytes([s[at], s[at + 1], s[at + 2], s[at + 3]])
 }
 
 // Step 1: the sixteen words of the block, and room for the others, which `step` makes.
@@ -249,6 +231,7 @@ fn load(s: &[u8], at: usize) -> [u32; 64]
     ensures { result ≡ S.loaded 16 s.now at }
 {
     let mut w = [0u32; 64];
+    // By index: of what is written through an adapter of `iter_mut` a proof knows nothing.
     for i in 0..16 {
         w[i] = word(s, at + 4 * i);
     }
@@ -264,44 +247,18 @@ fn compress(h: [u32; 8], s: &[u8], at: usize) -> [u32; 8]
     fold(h, v)
 }
 
-// 5.3.3
-fn initial() -> [u32; 8]
-    ensures { result ≡ S.initial }
-{
-    [
-        0x6a09_e667,
-        0xbb67_ae85,
-        0x3c6e_f372,
-        0xa54f_f53a,
-        0x510e_527f,
-        0x9b05_688c,
-        0x1f83_d9ab,
-        0x5be0_cd19,
-    ]
-}
-
 // The blocks that lie whole in the message.
 fn absorb(s: &[u8]) -> [u32; 8]
     ensures { result ≡ S.absorbed (length s.now / 64) (S.padded s.now) }
 {
-    let mut h = initial();
+    let mut h = INITIAL;
     let n = s.len() / 64;
+    // By the block's place, as the definition reads the padded bytes.
     for i in 0..n {
         let next = compress(h, s, i * 64);
         h = next;
     }
     h
-}
-
-// The bytes of x, highest first.
-fn put(out: &mut [u8], at: usize, x: u32)
-    requires { at + 4 ≤ length out.old }
-    ensures { out.new ≡ sets out.old at (be_bytes 4 x) }
-{
-    out[at] = ((x >> 24) % 256) as u8;
-    out[at + 1] = ((x >> 16) % 256) as u8;
-    out[at + 2] = ((x >> 8) % 256) as u8;
-    out[at + 3] = (x % 256) as u8;
 }
 
 // What of s comes after its whole blocks, and zeros.
@@ -310,7 +267,7 @@ fn rest(s: &[u8], at: usize) -> [u8; 128]
     ensures { result ≡ drop at s.now ++ replicate (128 - (length s.now - at)) 0 }
 {
     let mut t = [0u8; 128];
-    fiber_bytes::put(&mut t, 0, &s[at..]);
+    put(&mut t, 0, &s[at..]);
     t
 }
 
@@ -325,8 +282,7 @@ fn tail(s: &[u8]) -> [u8; 128]
     t[left] = 0x80;
     // The count of bits ends the first block if it fits there after the one bit, and else the second.
     let end = (left + 8) / 64 * 64 + 56;
-    put(&mut t, end, ((n >> 29) % 0x1_0000_0000) as u32);
-    put(&mut t, end + 4, (n % 0x2000_0000 * 8) as u32);
+    put(&mut t, end, &n.wrapping_mul(8).to_be_bytes());
     t
 }
 
@@ -334,8 +290,8 @@ fn digest(h: [u32; 8]) -> [u8; 32]
     ensures { result ≡ flat_map (be_bytes 4) h }
 {
     let mut r = [0u8; 32];
-    for i in 0..8 {
-        put(&mut r, 4 * i, h[i]);
+    for (i, word) in h.iter().enumerate() {
+        put(&mut r, 4 * i, &word.to_be_bytes());
     }
     r
 }

@@ -7,33 +7,13 @@ use mathlib.Core.Path.{◌≡◌, refl, sym, ap, subst, ◌∙◌}
 use mathlib.Core.Bool.{Bool, true, false, cond, ◌&&◌, ◌||◌, or-true}
 use mathlib.Core.Logic.{◌⊎◌, inl, inr}
 use lib.Dec.{eqb, leb, ltb, lit<}
-use borrow.Author.Tests.{le-leb, lt-leb, leb-true, leb-false, lt-ltb, le-ltb, ltb-true, ltb-false, ne_eqb}
+use borrow.Author.Tests.{le-leb, lt-leb, leb-true, leb-false, lt-ltb, le-ltb, ltb-true, ltb-false, ne_eqb, eq-eqb}
 use Rattle.fiber_since.specs.declared.epoch.Epoch.{Epoch}
-use Rattle.fiber_since.specs.declared.epoch.Product.TheVariants.{Fits, Over}
-use Rattle.fiber_since.specs.declared.epoch.Scaled.{Scaled}
-use Rattle.fiber_since.specs.declared.epoch.Scaled.TheVariants.{Refused}
-use Rattle.fiber_since.specs.declared.epoch.Scaled.TheVariants as ScaledCase
-use Rattle.fiber_since.specs.declared.epoch.DueTest.{DueTest}
-use Rattle.fiber_since.specs.declared.epoch.DueTest.TheVariants as DueCase
-use Rattle.fiber_since.specs.Epoch.{epoch_of, within_bits, units, factor, normalized, scaled, due, due_test}
-use Rattle.fiber_since.specs.inner.Bounds.{checked_mul, Bounded}
-
--- ---- products
-
-pub product_none : (a b : ℕ) → b ≡ 0 → Fits 0 ≡ checked_mul a b
-unfolding checked_mul
-product_none a b e = rw (e, mul-zero a)
-
-pub product_small : (a b : ℕ) → 0 < b → a ≤ 0xffff_ffff_ffff_ffff / b → a * b < 2 ^ 64
-product_small a b p h = omega (arith, (le-div_iff_mul-le p).0 h)
-
-pub product_fits : (a b : ℕ) → 0 < b → a ≤ 0xffff_ffff_ffff_ffff / b → Fits (a * b) ≡ checked_mul a b
-unfolding checked_mul
-product_fits a b p h = simp (lt-ltb (a * b) (2 ^ 64) (product_small a b p h))
-
-pub product_over : (a b : ℕ) → 0 < b → 0xffff_ffff_ffff_ffff / b < a → Over ≡ checked_mul a b
-unfolding checked_mul
-product_over a b p h = simp (le-ltb (a * b) (2 ^ 64) (omega (arith, (div-lt_iff_lt-mul p).0 h)))
+use Rattle.std.specs.Prelude.{Result, Ok, Err}
+use Rattle.fiber_refusal.specs.declared.Refusal.{Refusal}
+use Rattle.fiber_refusal.specs.declared.Refusal.TheVariants.{LengthZero, ScaledAbove, NotWell}
+use Rattle.fiber_since.specs.Epoch.{epoch_of, within_bits, units, factor, normalized, scaled, due, no_length, due_test}
+use Rattle.fiber_since.specs.inner.Bounds.{product, Bounded}
 
 -- ---- fractions
 
@@ -109,44 +89,7 @@ one_rest n l i = ap (λ (x : ℕ). x % l) (add_comm (n * l) i) ∙ add-mul-mod_s
 pub product_below : (p q : ℕ) {x y : ℕ} → x < p → y ≤ q → 0 < q → x * y < p * q
 product_below p q {x} {y} h g z = lt_of_le_of_lt (mul-le-mul_left x g) (mul-lt-mul_of_pos_right h z)
 
--- the sizes of what the due test computes
-pub record Sizes (h d n : Epoch) : Type 0 where
-  pub first : (h.index % h.length) * d.length < 4294967296
-  pub second : (d.index % d.length) * h.length < 4294967296
-  pub both : h.length * d.length < 4294967296
-  pub some : 0 < h.length * d.length
-  pub whole₁ : h.index / h.length < 65536
-  pub whole₂ : d.index / d.length < 65536
-  pub whole₃ : n.index / n.length < 65536
-  pub carry : ((h.index % h.length) * d.length + (d.index % d.length) * h.length) / (h.length * d.length) < 8589934592
-  pub left : (((h.index % h.length) * d.length + (d.index % d.length) * h.length) % (h.length * d.length)) * n.length < 281474976710656
-  pub right : (n.index % n.length) * (h.length * d.length) < 281474976710656
-
 module _ {h d n : Epoch} (w : (Bounded h) × ((Bounded d) × (Bounded n))) where
-  pub sizes : Sizes h d n
-  sizes =
-      let f = (h.index % h.length) * d.length in
-      let s = (d.index % d.length) * h.length in
-      let some : 0 < h.length * d.length = mul-pos w.0.some w.1.0.some in
-      let m₁ : h.index % h.length < 65536 = omega (arith, mod-le h.index h.length, w.0.index) in
-      let m₂ : d.index % d.length < 65536 = omega (arith, mod-le d.index d.length, w.1.0.index) in
-      let m₃ : n.index % n.length < 65536 = omega (arith, mod-le n.index n.length, w.1.1.index) in
-      let e₁ : f < 4294967296 = product_below 65536 65536 m₁ (omega (arith, w.1.0.length)) (lit< tt) in
-      let e₂ : s < 4294967296 = product_below 65536 65536 m₂ (omega (arith, w.0.length)) (lit< tt) in
-      let b : h.length * d.length < 4294967296 = product_below 65536 65536 w.0.length (omega (arith, w.1.0.length)) (lit< tt) in
-      record {
-        first = e₁;
-        second = e₂;
-        both = b;
-        some = some;
-        whole₁ = omega (arith, div-le_self h.index h.length, w.0.index);
-        whole₂ = omega (arith, div-le_self d.index d.length, w.1.0.index);
-        whole₃ = omega (arith, div-le_self n.index n.length, w.1.1.index);
-        carry = omega (arith, e₁, e₂, div-le_self (f + s) (h.length * d.length));
-        left = product_below 4294967296 65536 (omega (arith, b, mod-lt (f + s) some)) (omega (arith, w.1.1.length)) (lit< tt);
-        right = product_below 65536 4294967296 m₃ (omega (arith, b)) (lit< tt);
-      }
-
   abbrev whole : ℕ
   whole =
       h.number + h.index / h.length + (d.number + d.index / d.length)
@@ -217,64 +160,6 @@ units_small e h =
     let p : e.number * e.length < 2 ^ 40 = product_below (2 ^ 24) (2 ^ 16) b.number (omega (arith, b.length)) (lit< tt) in
     (p, omega (arith, p, b.index))
 
--- ---- scaling, by its tests
-
-over : (a b : ℕ) → Over ≡ checked_mul a b → leb (2 ^ 64) (a * b) ≡ true
-unfolding checked_mul
-over a b e = go (ltb (a * b) (2 ^ 64)) refl e
-  where
-    go : (t : Bool) → ltb (a * b) (2 ^ 64) ≡ t → Over ≡ cond t (Fits (a * b)) Over → leb (2 ^ 64) (a * b) ≡ true
-    go true p h = let z : ◌≡◌ {A = ℕ} 0 1 = cc in absurd (omega arith)
-    go false p h = le-leb (2 ^ 64) (a * b) (ltb-false (a * b) (2 ^ 64) p)
-
-fits : (a b n : ℕ) → Fits n ≡ checked_mul a b → (leb (2 ^ 64) (a * b) ≡ false) × (n ≡ a * b)
-unfolding checked_mul
-fits a b n e = go (ltb (a * b) (2 ^ 64)) refl e
-  where
-    go : (t : Bool) → ltb (a * b) (2 ^ 64) ≡ t → Fits n ≡ cond t (Fits (a * b)) Over → (leb (2 ^ 64) (a * b) ≡ false) × (n ≡ a * b)
-    go true p h = (lt-leb (2 ^ 64) (a * b) (ltb-true (a * b) (2 ^ 64) p), cc)
-    go false p h = let z : ◌≡◌ {A = ℕ} 0 1 = cc in absurd (omega arith)
-
-module _ (e : Epoch) (a b : ℕ) where
-  pub scaled_bits : within_bits e ≡ false → Refused 14 0 ≡ scaled e a b
-  unfolding scaled
-  scaled_bits h = rw h
-
-  module _ (h : within_bits e ≡ true) where
-    pub scaled_over : Over ≡ checked_mul a (units e) → Refused 8 0 ≡ scaled e a b
-    unfolding scaled
-    scaled_over f = rw (h, over a (units e) f)
-
-    module _ (n : ℕ) (f : Fits n ≡ checked_mul a (units e)) where
-      pub scaled_over_2 : Over ≡ checked_mul b e.length → Refused 8 0 ≡ scaled e a b
-      unfolding scaled
-      scaled_over_2 g = rw (h, (fits a (units e) n f).0, over b e.length g)
-
-      pub scaled_fits : (d : ℕ) → Fits d ≡ checked_mul b e.length → normalized n d ≡ scaled e a b
-      unfolding scaled
-      scaled_fits d g = rw (h, (fits a (units e) n f).0, (fits b e.length d g).0, (fits a (units e) n f).1, (fits b e.length d g).1)
-
--- ---- the due test, by its tests
-
-zero_among : (a b d : ℕ) → (a ≡ 0) ⊎ ((b ≡ 0) ⊎ (d ≡ 0)) → (eqb a 0 || eqb b 0 || eqb d 0) ≡ true
-zero_among a b d (inl e) = rw e
-zero_among a b d (inr (inl e)) = rw (e, or-true (eqb a 0))
-zero_among a b d (inr (inr e)) = rw (e, or-true (eqb a 0 || eqb b 0))
-
-module _ (h d n : Epoch) where
-  pub test_bits : (within_bits h && within_bits d && within_bits n) ≡ false → DueCase.Refused 14 0 ≡ due_test h d n
-  unfolding due_test
-  test_bits e = rw e
-
-  module _ (e : within_bits h ≡ true) (f : within_bits d ≡ true) (g : within_bits n ≡ true) where
-    pub test_zero : (h.length ≡ 0) ⊎ ((d.length ≡ 0) ⊎ (n.length ≡ 0)) → DueCase.Refused 7 0 ≡ due_test h d n
-    unfolding due_test
-    test_zero z = rw (e, f, g, zero_among h.length d.length n.length z)
-
-    pub test_due : (h.length ≡ 0 → ⊥) → (d.length ≡ 0 → ⊥) → (n.length ≡ 0 → ⊥) → (t : Bool) → t ≡ due h d n → cond t DueCase.Due DueCase.NotDue ≡ due_test h d n
-    unfolding due_test
-    test_due x y z t u = rw (e, f, g, ne_eqb h.length 0 x, ne_eqb d.length 0 y, ne_eqb n.length 0 z, u)
-
 -- ---- fields of an epoch value
 
 -- an epoch value's fields are within their bits
@@ -304,9 +189,9 @@ factor_size d h = go (ltb 1800 d) refl
     go false e = let z : d ≤ 1800 = ltb-false 1800 d e in record { some = omega arith; most = omega arith; cover = omega arith }
 
 -- a scaled delay that is not turned down, and can be compared
-pub record Fraction (x : Scaled) : Type 0 where
+pub record Fraction (x : Result Epoch Refusal) : Type 0 where
   pub epoch : Epoch
-  pub is_epoch : x ≡ ScaledCase.Epoch epoch
+  pub is_epoch : x ≡ Ok epoch
   pub within : Bounded epoch
 
 -- a fraction whose whole part has 24 bits
@@ -343,49 +228,110 @@ thirds_within e k h w =
     (normalized_within (k * (e.number * e.length + e.index)) (3 * e.length) (omega arith) (omega arith))
 
 -- so what the code has as a third can be compared
-pub third_within : (e : Epoch) (k : ℕ) → k ≤ 2 → Bounded e → (x : Scaled) (third : Epoch) → x ≡ scaled e k 3 → x ≡ ScaledCase.Epoch third → Bounded third
+pub third_within : (e : Epoch) (k : ℕ) → k ≤ 2 → Bounded e → (x : Result Epoch Refusal) (third : Epoch) → x ≡ scaled e k 3 → x ≡ Ok third → Bounded third
 third_within e k h w x third f g = let z = thirds_within e k h w in subst Bounded (inside z.epoch third (sym z.is_epoch ∙ sym f ∙ g)) z.within
   where
-    inside : (a b : Epoch) → ScaledCase.Epoch a ≡ ScaledCase.Epoch b → a ≡ b
+    inside : (a b : Epoch) → ◌≡◌ {A = Result Epoch Refusal} (Ok a) (Ok b) → a ≡ b
     inside a b e = cc
 
 -- and it has one
-pub third_refused : (e : Epoch) (k : ℕ) → k ≤ 2 → Bounded e → (x : Scaled) (number place : ℕ) → x ≡ scaled e k 3 → x ≡ ScaledCase.Refused number place → ⊥
-third_refused e k h w x number place f g =
-    let t = sym (thirds_within e k h w).is_epoch ∙ sym f ∙ g in
+pub third_refused : (e : Epoch) (k : ℕ) → k ≤ 2 → Bounded e → (r : Refusal) → Err r ≡ scaled e k 3 → ⊥
+third_refused e k h w r f =
+    let t = sym (thirds_within e k h w).is_epoch ∙ sym f in
     let z : ◌≡◌ {A = ℕ} 0 1 = cc in
     omega arith
 
--- ---- the due test
+-- ---- scaling, by its tests
 
-module _ (h d n : Epoch) (w : Bounded h × (Bounded d × Bounded n)) (x : DueTest) (e : x ≡ due_test h d n) where
-  -- it is never turned down
-  due_test_lem : x ≡ cond (due h d n) DueCase.Due DueCase.NotDue
-  due_test_lem =
-      e
-      ∙ sym
-      (test_due h d n (bits_of h w.0) (bits_of d w.1.0) (bits_of n w.1.1) (λ z. omega (arith, w.0.some)) (λ z. omega (arith, w.1.0.some)) (λ z. omega (arith, w.1.1.some)) (due h d n) refl)
+-- a product by its test
+over : (a b : ℕ) (r : Refusal) → Err r ≡ product a b → (leb (2 ^ 64) (a * b) ≡ true) × (r ≡ ScaledAbove)
+unfolding product
+over a b r e = go (ltb (a * b) (2 ^ 64)) refl e
+  where
+    go : (t : Bool) → ltb (a * b) (2 ^ 64) ≡ t → Err r ≡ cond t (Ok (a * b)) (Err ScaledAbove) → (leb (2 ^ 64) (a * b) ≡ true) × (r ≡ ScaledAbove)
+    go true p h = let z : ◌≡◌ {A = ℕ} 0 1 = cc in absurd (omega arith)
+    go false p h = (le-leb (2 ^ 64) (a * b) (ltb-false (a * b) (2 ^ 64) p), cc)
 
-  -- due
-  pub over_due : x ≡ DueCase.Due → true ≡ due h d n
-  over_due f = go (due h d n) due_test_lem
-    where
-      go : (b : Bool) → x ≡ cond b DueCase.Due DueCase.NotDue → true ≡ b
-      go true g = refl
-      go false g = let z : ◌≡◌ {A = ℕ} 0 1 = cc in absurd (omega arith)
+fits : (a b n : ℕ) → Ok n ≡ product a b → (leb (2 ^ 64) (a * b) ≡ false) × (n ≡ a * b)
+unfolding product
+fits a b n e = go (ltb (a * b) (2 ^ 64)) refl e
+  where
+    go : (t : Bool) → ltb (a * b) (2 ^ 64) ≡ t → Ok n ≡ cond t (Ok (a * b)) (Err ScaledAbove) → (leb (2 ^ 64) (a * b) ≡ false) × (n ≡ a * b)
+    go true p h = (lt-leb (2 ^ 64) (a * b) (ltb-true (a * b) (2 ^ 64) p), cc)
+    go false p h = let z : ◌≡◌ {A = ℕ} 0 1 = cc in absurd (omega arith)
 
-  -- not due
-  pub over_not : x ≡ DueCase.NotDue → false ≡ due h d n
-  over_not f = go (due h d n) due_test_lem
-    where
-      go : (b : Bool) → x ≡ cond b DueCase.Due DueCase.NotDue → false ≡ b
-      go true g = let z : ◌≡◌ {A = ℕ} 0 1 = cc in absurd (omega arith)
-      go false g = refl
+module _ (e : Epoch) (a b : ℕ) where
+  pub scaled_bits : within_bits e ≡ false → Err NotWell ≡ scaled e a b
+  unfolding scaled
+  scaled_bits h = rw h
 
-  -- turned down
-  pub over_refused : (number place : ℕ) → x ≡ DueCase.Refused number place → ⊥
-  over_refused number place f = go (due h d n) due_test_lem
-    where
-      go : (b : Bool) → x ≡ cond b DueCase.Due DueCase.NotDue → ⊥
-      go true g = let z : ◌≡◌ {A = ℕ} 0 1 = cc in omega arith
-      go false g = let z : ◌≡◌ {A = ℕ} 0 1 = cc in omega arith
+  module _ (h : within_bits e ≡ true) where
+    pub scaled_over : (r : Refusal) → Err r ≡ product a (units e) → Err r ≡ scaled e a b
+    unfolding scaled
+    scaled_over r f = rw (h, (over a (units e) r f).0, (over a (units e) r f).1)
+
+    module _ (n : ℕ) (f : Ok n ≡ product a (units e)) where
+      pub scaled_over_2 : (r : Refusal) → Err r ≡ product b e.length → Err r ≡ scaled e a b
+      unfolding scaled
+      scaled_over_2 r g = rw (h, (fits a (units e) n f).0, (over b e.length r g).0, (over b e.length r g).1)
+
+      pub scaled_fits : (d : ℕ) → Ok d ≡ product b e.length → normalized n d ≡ scaled e a b
+      unfolding scaled
+      scaled_fits d g = rw (h, (fits a (units e) n f).0, (fits b e.length d g).0, (fits a (units e) n f).1, (fits b e.length d g).1)
+
+-- ---- the due test, by its tests
+
+no_zero : (n : ℕ) → eqb n 0 ≡ false → (n ≡ 0 → ⊥)
+no_zero n e h = let z : eqb n 0 ≡ true = eq-eqb n 0 h in let y : ◌≡◌ {A = ℕ} 0 1 = cc in omega arith
+
+-- a list of three tests, as the code has them
+and_three : (a b d : Bool) → (a && (b && (d && true))) ≡ (a && b && d)
+and_three true true true = refl
+and_three true true false = refl
+and_three true false d = refl
+and_three false b d = refl
+
+or_three : (a b d : Bool) → (a || (b || (d || false))) ≡ (a || b || d)
+or_three true b d = refl
+or_three false true d = refl
+or_three false false true = refl
+or_three false false false = refl
+
+all_true : (a b d : Bool) → true ≡ (a && (b && (d && true))) → (a ≡ true) × ((b ≡ true) × (d ≡ true))
+all_true true true true e = (refl, (refl, refl))
+all_true true true false e = let z : ◌≡◌ {A = ℕ} 0 1 = cc in absurd (omega arith)
+all_true true false d e = let z : ◌≡◌ {A = ℕ} 0 1 = cc in absurd (omega arith)
+all_true false b d e = let z : ◌≡◌ {A = ℕ} 0 1 = cc in absurd (omega arith)
+
+none_true : (a b d : Bool) → false ≡ (a || (b || (d || false))) → (a ≡ false) × ((b ≡ false) × (d ≡ false))
+none_true false false false e = (refl, (refl, refl))
+none_true false false true e = let z : ◌≡◌ {A = ℕ} 0 1 = cc in absurd (omega arith)
+none_true false true d e = let z : ◌≡◌ {A = ℕ} 0 1 = cc in absurd (omega arith)
+none_true true b d e = let z : ◌≡◌ {A = ℕ} 0 1 = cc in absurd (omega arith)
+
+module _ (h d n : Epoch) where
+  abbrev all_bits : Bool
+  all_bits = within_bits h && (within_bits d && (within_bits n && true))
+
+  abbrev some_zero : Bool
+  some_zero = no_length h || (no_length d || (no_length n || false))
+
+  pub test_bits : false ≡ all_bits → Err NotWell ≡ due_test h d n
+  unfolding due_test
+  test_bits e = rw (← and_three (within_bits h) (within_bits d) (within_bits n), ← e)
+
+  module _ (e : true ≡ all_bits) where
+    pub test_zero : true ≡ some_zero → Err LengthZero ≡ due_test h d n
+    unfolding due_test
+    test_zero z = rw (← and_three (within_bits h) (within_bits d) (within_bits n), ← e, ← or_three (no_length h) (no_length d) (no_length n), ← z)
+
+    pub test_due : false ≡ some_zero → (t : Bool) → t ≡ due h d n → Ok t ≡ due_test h d n
+    unfolding due_test
+    test_due z t u = rw (← and_three (within_bits h) (within_bits d) (within_bits n), ← e, ← or_three (no_length h) (no_length d) (no_length n), ← z, u)
+
+    -- each of the three can be compared
+    pub three_within : false ≡ some_zero → Bounded h × (Bounded d × Bounded n)
+    three_within z =
+        let b = all_true (within_bits h) (within_bits d) (within_bits n) e in
+        let o = none_true (no_length h) (no_length d) (no_length n) z in
+        (within h b.0 (no_zero h.length o.0), (within d b.1.0 (no_zero d.length o.1.0), within n b.1.1 (no_zero n.length o.1.1)))

@@ -1,10 +1,8 @@
 -- Epochs: fields, scaling and the due test; docs/SCOPE.md, modules 2 to 4, with the numbers of its table.
-use Rattle.std.specs.Prelude.{ℕ, ◌+◌, ◌*◌, ◌/◌, ◌%◌, ◌^◌, Bool, cond, ◌&&◌, ◌||◌, eqb, ltb, leb}
+use Rattle.std.specs.Prelude.{ℕ, ◌+◌, ◌*◌, ◌/◌, ◌%◌, ◌^◌, Bool, cond, ◌&&◌, ◌||◌, eqb, ltb, leb, Result, Ok, Err}
+use Rattle.fiber_refusal.specs.declared.Refusal.{Refusal}
+use Rattle.fiber_refusal.specs.declared.Refusal.TheVariants.{LengthZero, ScaledAbove, NotWell}
 use Rattle.fiber_since.specs.declared.epoch.Epoch.{Epoch}
-use Rattle.fiber_since.specs.declared.epoch.Scaled.{Scaled}
-use Rattle.fiber_since.specs.declared.epoch.Scaled.TheVariants as ScaledCase
-use Rattle.fiber_since.specs.declared.epoch.DueTest.{DueTest}
-use Rattle.fiber_since.specs.declared.epoch.DueTest.TheVariants as DueCase
 
 abbrev pub epoch : ℕ → ℕ → ℕ → Epoch
 epoch number index length = record { number = number; index = index; length = length }
@@ -27,22 +25,22 @@ unfoldable pub factor : ℕ → ℕ
 factor d = cond (ltb 1800 d) (d / 1800 + 1) 1
 
 -- whole part N div D, rest R = N mod D; (N div D, R div s, D div s)
-unfoldable pub normalized : ℕ → ℕ → Scaled
+unfoldable pub normalized : ℕ → ℕ → Result Epoch Refusal
 normalized n d =
-    cond (eqb d 0) (ScaledCase.Refused 7 0)
-    (cond (ltb 16777215 (n / d)) (ScaledCase.Refused 8 0)
-    (ScaledCase.Epoch (record { number = n / d; index = n % d / factor d; length = d / factor d })))
+    cond (eqb d 0) (Err LengthZero)
+    (cond (ltb 16777215 (n / d)) (Err ScaledAbove)
+    (Ok (record { number = n / d; index = n % d / factor d; length = d / factor d })))
 
 -- in the order 14, N (8), D (8), 7, whole part (8), with N = numerator × units and D = denominator × length
-unfoldable pub scaled : Epoch → ℕ → ℕ → Scaled
+unfoldable pub scaled : Epoch → ℕ → ℕ → Result Epoch Refusal
 scaled delay numerator denominator =
     let n = numerator * units delay in
     let d = denominator * delay.length in
     cond (within_bits delay)
-    (cond (leb (2 ^ 64) n) (ScaledCase.Refused 8 0)
-    (cond (leb (2 ^ 64) d) (ScaledCase.Refused 8 0)
+    (cond (leb (2 ^ 64) n) (Err ScaledAbove)
+    (cond (leb (2 ^ 64) d) (Err ScaledAbove)
     (normalized n d)))
-    (ScaledCase.Refused 14 0)
+    (Err NotWell)
 
 -- ---- the due test
 
@@ -51,10 +49,14 @@ unfoldable pub due : Epoch → Epoch → Epoch → Bool
 due header delay current =
     leb ((units header * delay.length + units delay * header.length) * current.length) (units current * (header.length * delay.length))
 
+-- a length of 0
+abbrev pub no_length : Epoch → Bool
+no_length e = eqb e.length 0
+
 -- in the order 14, 7
-unfoldable pub due_test : Epoch → Epoch → Epoch → DueTest
+unfoldable pub due_test : Epoch → Epoch → Epoch → Result Bool Refusal
 due_test header delay current =
     cond (within_bits header && within_bits delay && within_bits current)
-    (cond (eqb header.length 0 || eqb delay.length 0 || eqb current.length 0) (DueCase.Refused 7 0)
-    (cond (due header delay current) DueCase.Due DueCase.NotDue))
-    (DueCase.Refused 14 0)
+    (cond (eqb header.length 0 || eqb delay.length 0 || eqb current.length 0) (Err LengthZero)
+    (Ok (due header delay current)))
+    (Err NotWell)

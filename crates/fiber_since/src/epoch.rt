@@ -1,7 +1,10 @@
 // Epochs with a fraction: number + index / length. Indices may exceed lengths.
 ghost use Rattle.std.specs.Prelude.{◌≡◌, ◌<◌};
+ghost use Rattle.std.specs.List.{list_all, list_any};
 ghost use Rattle.fiber_since.specs.Epoch as S;
-ghost use Rattle.fiber_since.specs.inner.Bounds.{checked_mul, Bounded};
+ghost use Rattle.fiber_since.specs.inner.Bounds.{product};
+
+use fiber_refusal::Refusal;
 
 // The longest epoch; the largest number of an epoch; an index, of 16 bits, is below its limit.
 const LONGEST: u64 = 1800;
@@ -10,37 +13,15 @@ const MOST_WHOLE: u64 = 16_777_215;
 
 const INDEX_LIMIT: u64 = 0x1_0000;
 
-#[derive(Clone, Copy)]
+#[derive(Clone, Copy, Debug, PartialEq, Eq)]
 pub struct Epoch {
     pub number: u64,
     pub index: u64,
     pub length: u64,
 }
 
-// An epoch scaled by a fraction.
-#[derive(Clone, Copy)]
-pub enum Scaled {
-    Epoch(Epoch),
-    // Turned down by a row of document 01's table.
-    Refused { number: usize, place: usize },
-}
-
-// The due test's answer.
-#[derive(Clone, Copy)]
-pub enum DueTest {
-    Due,
-    NotDue,
-    // Turned down by a row of document 01's table.
-    Refused { number: usize, place: usize },
-}
-
-#[derive(Clone, Copy)]
-enum Product {
-    Fits(u64),
-    Over,
-}
-
 // The fields of an epoch value: number, index, length from the lowest bit up, 56 bits in all.
+#[tactic(auto, unfolding(crate::specs::Epoch::epoch_of))]
 pub fn from_full_value(value: u64) -> Epoch
     ensures { result ≡ S.epoch_of value }
 {
@@ -51,32 +32,15 @@ pub fn from_full_value(value: u64) -> Epoch
     }
 }
 
+#[tactic(auto, unfolding(crate::specs::Epoch::within_bits))]
 pub fn within_bits(e: Epoch) -> bool
     ensures { result ≡ S.within_bits e }
 {
-    if 0x100_0000 <= e.number {
-        return false;
-    }
-    if INDEX_LIMIT <= e.index {
-        return false;
-    }
-    e.length < 0x1_0000
-}
-
-// A product, tested and not assumed to have 64 bits.
-fn checked_mul(a: u64, b: u64) -> Product
-    ensures { result ≡ checked_mul a b }
-{
-    if b == 0 {
-        return Product::Fits(0);
-    }
-    if a <= 0xffff_ffff_ffff_ffff / b {
-        return Product::Fits(a * b);
-    }
-    Product::Over
+    e.number < 0x100_0000 && e.index < INDEX_LIMIT && e.length < 0x1_0000
 }
 
 // What a denominator is divided by, so that at most 1800, the longest epoch, is left.
+#[tactic(auto, unfolding(crate::specs::Epoch::factor))]
 fn factor(d: u64) -> u64
     ensures { (result ≡ S.factor d) × (0 < result) }
 {
@@ -84,119 +48,55 @@ fn factor(d: u64) -> u64
 }
 
 // The fraction n / d as an epoch.
-fn normalized(n: u64, d: u64) -> Scaled
+#[tactic(auto, unfolding(crate::specs::Epoch::normalized))]
+fn normalized(n: u64, d: u64) -> Result<Epoch, Refusal>
     ensures { result ≡ S.normalized n d }
 {
     if d == 0 {
-        return Scaled::Refused {
-            number: 7,
-            place: 0,
-        };
+        return Err(Refusal::LengthZero);
     }
     if MOST_WHOLE < n / d {
-        return Scaled::Refused {
-            number: 8,
-            place: 0,
-        };
+        return Err(Refusal::ScaledAbove);
     }
     let s = factor(d);
-    Scaled::Epoch(Epoch {
+    Ok(Epoch {
         number: n / d,
         index: n % d / s,
         length: d / s,
     })
 }
 
+// A product of 64 bits.
+#[tactic(auto, unfolding(crate::specs::inner::Bounds::product))]
+fn product(a: u64, b: u64) -> Result<u64, Refusal>
+    ensures { result ≡ product a b }
+{
+    a.checked_mul(b).ok_or(Refusal::ScaledAbove)
+}
+
 // The delay times numerator / denominator.
-pub fn mul(delay: Epoch, numerator: u64, denominator: u64) -> Scaled
+pub fn mul(delay: Epoch, numerator: u64, denominator: u64) -> Result<Epoch, Refusal>
     ensures { result ≡ S.scaled delay numerator denominator }
 {
     if !within_bits(delay) {
-        return Scaled::Refused {
-            number: 14,
-            place: 0,
-        };
+        return Err(Refusal::NotWell);
     }
     let units = delay.number * delay.length + delay.index;
-    let Product::Fits(n) = checked_mul(numerator, units) else {
-        return Scaled::Refused {
-            number: 8,
-            place: 0,
-        };
-    };
-    let Product::Fits(d) = checked_mul(denominator, delay.length) else {
-        return Scaled::Refused {
-            number: 8,
-            place: 0,
-        };
-    };
+    let n = product(numerator, units)?;
+    let d = product(denominator, delay.length)?;
     normalized(n, d)
 }
 
-// Whether header + delay is at most current: the whole parts first, then the fractions below one.
-fn due(header: Epoch, delay: Epoch, current: Epoch) -> bool
-    requires { (Bounded header) × ((Bounded delay) × (Bounded current)) }
-    ensures { result ≡ S.due header delay current }
+// Whether each epoch is within its bits.
+pub fn all_within(epochs: &[Epoch]) -> bool
+    ensures { result ≡ list_all S.within_bits epochs.now }
 {
-    let l1 = header.length;
-    let l2 = delay.length;
-    let l3 = current.length;
-    let a = (header.index % l1) * l2 + (delay.index % l2) * l1;
-    let b = l1 * l2;
-    let whole = header.number + header.index / l1 + (delay.number + delay.index / l2) + a / b;
-    let other = current.number + current.index / l3;
-    if whole < other {
-        return true;
-    }
-    if other < whole {
-        return false;
-    }
-    (a % b) * l3 <= (current.index % l3) * b
+    epochs.iter().all(|e| within_bits(*e))
 }
 
-// The due test.
-pub fn is_due(header: Epoch, delay: Epoch, current: Epoch) -> DueTest
-    ensures { result ≡ S.due_test header delay current }
+// Whether one of them has a length of 0.
+pub fn any_zero(epochs: &[Epoch]) -> bool
+    ensures { result ≡ list_any S.no_length epochs.now }
 {
-    if !within_bits(header) {
-        return DueTest::Refused {
-            number: 14,
-            place: 0,
-        };
-    }
-    if !within_bits(delay) {
-        return DueTest::Refused {
-            number: 14,
-            place: 0,
-        };
-    }
-    if !within_bits(current) {
-        return DueTest::Refused {
-            number: 14,
-            place: 0,
-        };
-    }
-    if header.length == 0 {
-        return DueTest::Refused {
-            number: 7,
-            place: 0,
-        };
-    }
-    if delay.length == 0 {
-        return DueTest::Refused {
-            number: 7,
-            place: 0,
-        };
-    }
-    if current.length == 0 {
-        return DueTest::Refused {
-            number: 7,
-            place: 0,
-        };
-    }
-    if due(header, delay, current) {
-        DueTest::Due
-    } else {
-        DueTest::NotDue
-    }
+    epochs.iter().any(|e| e.length == 0)
 }

@@ -2,47 +2,38 @@
 ghost use Rattle.std.specs.Prelude.{◌≡◌};
 ghost use Rattle.fiber_since.specs.Since as S;
 
-// The last second whose milliseconds fit 64 bits.
-const LAST_SECOND: u64 = 18_446_744_073_709_551;
+// A second has so many milliseconds.
+const MILLIS: u64 = 1000;
 
-#[derive(Clone, Copy)]
+#[derive(Clone, Copy, Debug, PartialEq, Eq)]
 pub enum Metric {
     Block,
     Epoch,
     Timestamp,
-    None,
 }
 
-#[derive(Clone, Copy)]
+// A since value's fields. Two of its bits have a fourth case, which is no metric.
+#[derive(Clone, Copy, Debug, PartialEq, Eq)]
 pub struct Since {
     pub relative: bool,
-    pub metric: Metric,
+    pub metric: Option<Metric>,
     pub value: u64,
 }
 
-// When a TLC can be taken by timeout, in milliseconds.
-#[derive(Clone, Copy)]
-pub enum Expiry {
-    At(u64),
-    None,
-}
-
-fn metric_of(bits: u64) -> Metric
+#[tactic(auto, unfolding(crate::specs::Since::metric_of))]
+fn metric_of(bits: u64) -> Option<Metric>
     ensures { result ≡ S.metric_of bits }
 {
-    if bits == 0 {
-        return Metric::Block;
+    match bits {
+        0 => Some(Metric::Block),
+        1 => Some(Metric::Epoch),
+        2 => Some(Metric::Timestamp),
+        _ => None,
     }
-    if bits == 1 {
-        return Metric::Epoch;
-    }
-    if bits == 2 {
-        return Metric::Timestamp;
-    }
-    Metric::None
 }
 
 // A since value taken apart. Bits 60 to 56 are not looked at.
+#[tactic(auto, unfolding(crate::specs::Since::since))]
 pub fn from_raw_value(raw: u64) -> Since
     ensures { result ≡ S.since raw }
 {
@@ -53,30 +44,14 @@ pub fn from_raw_value(raw: u64) -> Since
     }
 }
 
-// Seconds as milliseconds, where these have 64 bits.
-fn millis(seconds: u64) -> Expiry
-    ensures { result ≡ S.millis seconds }
-{
-    if seconds <= LAST_SECOND {
-        Expiry::At(seconds * 1000)
-    } else {
-        Expiry::None
-    }
-}
-
-// The expiry that a since value holds: an absolute timestamp, or none.
-pub fn absolute_expiry(raw: u64) -> Expiry
+// The expiry that a since value holds, in milliseconds: that of an absolute timestamp, where it has 64 bits.
+#[tactic(auto, unfolding(crate::specs::Since::absolute_expiry, crate::specs::Since::millis))]
+pub fn absolute_expiry(raw: u64) -> Option<u64>
     ensures { result ≡ S.absolute_expiry raw }
 {
     let since = from_raw_value(raw);
-    if since.relative {
-        return Expiry::None;
-    }
-    let metric = since.metric;
-    match metric {
-        Metric::Timestamp => millis(since.value),
-        Metric::Block => Expiry::None,
-        Metric::Epoch => Expiry::None,
-        Metric::None => Expiry::None,
+    match since.metric {
+        Some(Metric::Timestamp) if !since.relative => since.value.checked_mul(MILLIS),
+        _ => None,
     }
 }

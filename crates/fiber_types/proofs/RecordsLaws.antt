@@ -10,31 +10,30 @@ use lib.Dec.{eqb, leb, lit≤}
 use lib.ListN.{length, get_or, drop, length-append, length-take, set}
 use lib.Seq.{sets, length-sets}
 use borrow.Author.Tests.{le-leb, lt-leb, leb-true, eq-eqb, ne_eqb, eqb-true}
-use Rattle.fiber_types.specs.declared.answer.Written.{Written}
-use Rattle.fiber_types.specs.declared.answer.Written.TheVariants as WrittenCase
+use Rattle.std.specs.Prelude.{Result, Ok, Err}
+use Rattle.fiber_refusal.specs.declared.Refusal.{Refusal}
+use Rattle.fiber_refusal.specs.declared.Refusal.TheVariants.{TlcCut, UnlockCut, OutputShort, NotWell}
 use Rattle.fiber_types.specs.declared.tlc.Amount.{Amount}
 use Rattle.fiber_types.specs.declared.tlc.Tlc.{Tlc}
-use Rattle.fiber_types.specs.declared.tlc.TlcRead.{TlcRead}
-use Rattle.fiber_types.specs.declared.tlc.TlcRead.TheVariants as TlcCase
 use Rattle.fiber_types.specs.declared.unlock.Unlock.{Unlock}
-use Rattle.fiber_types.specs.declared.unlock.UnlockRead.TheVariants as UnlockCase
 use Rattle.fiber_bytes.specs.Bytes.{part, le, le_bytes}
-use Rattle.fiber_types.specs.Records.{outcome, amount_at, valid_hash_len, tlc_bytes, tlc_at, payment_hash, key_hash_in, read_tlc, wrote_tlc, witness_len, flag_byte, unlock_bytes, read_unlock, wrote_unlock}
+use Rattle.fiber_types.specs.HashLen.{valid_hash_len}
+use Rattle.fiber_types.specs.Records.{outcome, amount_at, tlc_bytes, tlc_at, payment_hash, key_hash_in, read_tlc, wrote_tlc, witness_len, flag_byte, unlock_bytes, read_unlock, wrote_unlock, unwritten}
 use Rattle.fiber_bytes.proofs.BytesLaws.{part_none, part_part, le_bytes_length, sets_then, le_none}
 
 -- ---- reading
 
 module _ (h : ℕ) (s : List ℕ) (at : ℕ) where
-  pub tlc_unknown : valid_hash_len h ≡ false → TlcCase.Refused 14 0 ≡ read_tlc h s at
+  pub tlc_unknown : valid_hash_len h ≡ false → Err NotWell ≡ read_tlc h s at
   unfolding read_tlc
   tlc_unknown e = rw e
 
   module _ (e : valid_hash_len h ≡ true) where
-    pub tlc_cut : length s < at + (65 + h) → TlcCase.Refused 2 at ≡ read_tlc h s at
+    pub tlc_cut : length s < at + (65 + h) → Err (TlcCut at) ≡ read_tlc h s at
     unfolding read_tlc
     tlc_cut g = rw (e, lt-leb (at + (65 + h)) (length s) g)
 
-    pub tlc_whole : at + (65 + h) ≤ length s → read_tlc h s at ≡ TlcCase.Whole (tlc_at h s at)
+    pub tlc_whole : at + (65 + h) ≤ length s → read_tlc h s at ≡ Ok (tlc_at h s at)
     unfolding read_tlc
     tlc_whole g = rw (e, le-leb (at + (65 + h)) (length s) g)
 
@@ -50,20 +49,12 @@ module _ (h : ℕ) (s : List ℕ) (at : ℕ) where
   tlc_amount_lem = refl
 
 -- A TLC that is whole: what is read is its numbers, and it is never turned down.
-module _ {x : TlcRead} {t : Tlc} (e : x ≡ TlcCase.Whole t) where
-  pub whole_is : (u : Tlc) → x ≡ TlcCase.Whole u → u ≡ t
-  whole_is u f = ap numbers_of (sym f ∙ e)
-    where
-      numbers_of : TlcRead → Tlc
-      numbers_of (TlcCase.Whole v) = v
-      numbers_of (TlcCase.Refused number place) = u
+module _ {x : Result Tlc Refusal} {t : Tlc} (e : x ≡ Ok t) where
+  pub whole_is : (u : Tlc) → x ≡ Ok u → u ≡ t
+  whole_is u f = cc
 
-  pub whole_never : {A : Type 0} (number place : ℕ) → x ≡ TlcCase.Refused number place → A
-  whole_never number place f = absurd (subst Whole (sym e ∙ f) tt)
-    where
-      Whole : TlcRead → Type 0
-      Whole (TlcCase.Whole v) = Unit {0}
-      Whole (TlcCase.Refused number place) = ⊥
+  pub whole_never : {A : Type 0} (r : Refusal) → x ≡ Err r → A
+  whole_never r f = let z : ◌≡◌ {A = ℕ} 0 1 = cc in absurd (omega arith)
 
 -- a record's parts
 pub payment_hash_lem : (h : ℕ) (r : List ℕ) → part r 17 h ≡ payment_hash h r
@@ -103,20 +94,20 @@ hash_len_small h e = go (eqb h 20) (eqb h 32) refl refl e
     go false false p q r = let z : ◌≡◌ {A = ℕ} 0 1 = cc in absurd (omega arith)
 
 module _ (s : List ℕ) (at : ℕ) where
-  pub unlock_cut : length s < at + 67 → UnlockCase.Refused 4 at ≡ read_unlock s at
+  pub unlock_cut : length s < at + 67 → Err (UnlockCut at) ≡ read_unlock s at
   unfolding read_unlock
   unlock_cut h = go (eqb (get_or s (at + 1) 0) 1)
     where
-      go : (t : Bool) → UnlockCase.Refused 4 at ≡ cond (leb (at + cond t 99 67) (length s)) (UnlockCase.Whole (record { byte = get_or s at 0; flag = t })) (UnlockCase.Refused 4 at)
+      go : (t : Bool) → ◌≡◌ {A = Result Unlock Refusal} (Err (UnlockCut at)) (cond (leb (at + cond t 99 67) (length s)) (Ok (record { byte = get_or s at 0; flag = t })) (Err (UnlockCut at)))
       go true = rw (lt-leb (at + 99) (length s) (omega arith))
       go false = rw (lt-leb (at + 67) (length s) h)
 
-  pub unlock_cut_flag : (t : Bool) → t ≡ eqb (get_or s (at + 1) 0) 1 → length s < at + witness_len t → UnlockCase.Refused 4 at ≡ read_unlock s at
+  pub unlock_cut_flag : (t : Bool) → t ≡ eqb (get_or s (at + 1) 0) 1 → length s < at + witness_len t → Err (UnlockCut at) ≡ read_unlock s at
   unfolding read_unlock
   unlock_cut_flag t e h = rw (← e, lt-leb (at + witness_len t) (length s) h)
 
   pub unlock_whole : (t : Bool) → t ≡ eqb (get_or s (at + 1) 0) 1 → at + witness_len t ≤ length s
-      → UnlockCase.Whole (record { byte = get_or s at 0; flag = t }) ≡ read_unlock s at
+      → Ok (record { byte = get_or s at 0; flag = t }) ≡ read_unlock s at
   unfolding read_unlock
   unlock_whole t e h = rw (← e, le-leb (at + witness_len t) (length s) h)
 
@@ -143,28 +134,37 @@ amount_part s at n i h =
 -- ---- writing
 
 module _ (ok : Bool) (bytes out : List ℕ) where
-  pub outcome_unfit : ok ≡ false → (WrittenCase.Refused 14 0 ≡ (outcome ok bytes out).answer) × (out ≡ (outcome ok bytes out).bytes)
+  pub outcome_unfit : ok ≡ false → (Err NotWell ≡ (outcome ok bytes out).answer) × (out ≡ (outcome ok bytes out).bytes)
   unfolding outcome
   outcome_unfit e = (rw e, rw e)
 
   module _ (e : ok ≡ true) (n : ℕ) (f : length bytes ≡ n) where
-    pub outcome_short : length out < n → (WrittenCase.Refused 13 n ≡ (outcome ok bytes out).answer) × (out ≡ (outcome ok bytes out).bytes)
+    pub outcome_short : length out < n → (Err (OutputShort n) ≡ (outcome ok bytes out).answer) × (out ≡ (outcome ok bytes out).bytes)
     unfolding outcome
     outcome_short g = (rw (e, f, lt-leb n (length out) g), rw (e, f, lt-leb n (length out) g))
 
-    pub outcome_whole : n ≤ length out → (out' : List ℕ) → out' ≡ sets out 0 bytes → (WrittenCase.Bytes n ≡ (outcome ok bytes out).answer) × (out' ≡ (outcome ok bytes out).bytes)
+    pub outcome_whole : n ≤ length out → (out' : List ℕ) → out' ≡ sets out 0 bytes → (Ok n ≡ (outcome ok bytes out).answer) × (out' ≡ (outcome ok bytes out).bytes)
     unfolding outcome
     outcome_whole g out' d = (rw (e, f, le-leb n (length out) g), rw (e, f, le-leb n (length out) g) d)
 
+-- what does not fit the layout, and what has no room
+pub outcome_none : (bytes out : List ℕ) → outcome false bytes out ≡ unwritten (Err NotWell) out
+unfolding outcome
+outcome_none bytes out = refl
+
+pub outcome_over : (bytes out : List ℕ) → length out < length bytes → outcome true bytes out ≡ unwritten (Err (OutputShort (length bytes))) out
+unfolding outcome
+outcome_over bytes out g = rw (lt-leb (length bytes) (length out) g)
+
 -- what has room is written
-pub outcome_room : (bytes out : List ℕ) → length bytes ≤ length out → outcome true bytes out ≡ record { answer = WrittenCase.Bytes (length bytes); bytes = sets out 0 bytes }
+pub outcome_room : (bytes out : List ℕ) → length bytes ≤ length out → outcome true bytes out ≡ record { answer = Ok (length bytes); bytes = sets out 0 bytes }
 unfolding outcome
 outcome_room bytes out g = rw (le-leb (length bytes) (length out) g)
 
 -- what holds where the bytes are written, and where they have no room, holds of the outcome
-pub outcome_by : (P : List ℕ → Written → Type 0) (bytes out : List ℕ)
-    → (length bytes ≤ length out → P (sets out 0 bytes) (WrittenCase.Bytes (length bytes)))
-    → P out (WrittenCase.Refused 13 (length bytes))
+pub outcome_by : (P : List ℕ → Result ℕ Refusal → Type 0) (bytes out : List ℕ)
+    → (length bytes ≤ length out → P (sets out 0 bytes) (Ok (length bytes)))
+    → P out (Err (OutputShort (length bytes)))
     → P (outcome true bytes out).bytes (outcome true bytes out).answer
 unfolding outcome
 outcome_by P bytes out f g = go (leb (length bytes) (length out)) refl
@@ -242,7 +242,7 @@ at_least false = lit≤ tt
 
 module _ (t : Tlc) (hash remote local out : List ℕ) where
   pub tlc_unfit : (valid_hash_len (length hash) ≡ false) ⊎ ((length remote ≡ 20 → ⊥) ⊎ (length local ≡ 20 → ⊥))
-      → (WrittenCase.Refused 14 0 ≡ (wrote_tlc t hash remote local out).answer) × (out ≡ (wrote_tlc t hash remote local out).bytes)
+      → (Err NotWell ≡ (wrote_tlc t hash remote local out).answer) × (out ≡ (wrote_tlc t hash remote local out).bytes)
   unfolding wrote_tlc
   tlc_unfit h = outcome_unfit _ (tlc_bytes t hash remote local) out (go h)
     where
@@ -260,18 +260,18 @@ module _ (t : Tlc) (hash remote local out : List ℕ) where
     size = omega (arith, tlc_bytes_length t hash remote local)
 
     pub tlc_short : length out < 65 + length hash
-        → (WrittenCase.Refused 13 (65 + length hash) ≡ (wrote_tlc t hash remote local out).answer) × (out ≡ (wrote_tlc t hash remote local out).bytes)
+        → (Err (OutputShort (65 + length hash)) ≡ (wrote_tlc t hash remote local out).answer) × (out ≡ (wrote_tlc t hash remote local out).bytes)
     unfolding wrote_tlc
     tlc_short g = outcome_short _ (tlc_bytes t hash remote local) out fit _ size g
 
     pub tlc_written : 65 + length hash ≤ length out → (out' : List ℕ) → out' ≡ sets out 0 (tlc_bytes t hash remote local)
-        → (WrittenCase.Bytes (65 + length hash) ≡ (wrote_tlc t hash remote local out).answer) × (out' ≡ (wrote_tlc t hash remote local out).bytes)
+        → (Ok (65 + length hash) ≡ (wrote_tlc t hash remote local out).answer) × (out' ≡ (wrote_tlc t hash remote local out).bytes)
     unfolding wrote_tlc
     tlc_written g out' d = outcome_whole _ (tlc_bytes t hash remote local) out fit _ size g out' d
 
 module _ (u : Unlock) (signature preimage out : List ℕ) (n : ℕ) (w : n ≡ witness_len u.flag) where
   pub unlock_unfit : (length signature ≡ 65 → ⊥) ⊎ (length preimage ≡ n - 67 → ⊥)
-      → (WrittenCase.Refused 14 0 ≡ (wrote_unlock u signature preimage out).answer) × (out ≡ (wrote_unlock u signature preimage out).bytes)
+      → (Err NotWell ≡ (wrote_unlock u signature preimage out).answer) × (out ≡ (wrote_unlock u signature preimage out).bytes)
   unfolding wrote_unlock
   unlock_unfit h = outcome_unfit _ (unlock_bytes u signature preimage) out (go h)
     where
@@ -287,11 +287,11 @@ module _ (u : Unlock) (signature preimage out : List ℕ) (n : ℕ) (w : n ≡ w
     len : length (unlock_bytes u signature preimage) ≡ n
     len = omega (arith, w, unlock_bytes_length u signature preimage, at_least u.flag)
 
-    pub unlock_short : length out < n → (WrittenCase.Refused 13 n ≡ (wrote_unlock u signature preimage out).answer) × (out ≡ (wrote_unlock u signature preimage out).bytes)
+    pub unlock_short : length out < n → (Err (OutputShort n) ≡ (wrote_unlock u signature preimage out).answer) × (out ≡ (wrote_unlock u signature preimage out).bytes)
     unfolding wrote_unlock
     unlock_short g = outcome_short _ (unlock_bytes u signature preimage) out fits n len g
 
     pub unlock_written : n ≤ length out → (out' : List ℕ) → out' ≡ sets out 0 (unlock_bytes u signature preimage)
-        → (WrittenCase.Bytes n ≡ (wrote_unlock u signature preimage out).answer) × (out' ≡ (wrote_unlock u signature preimage out).bytes)
+        → (Ok n ≡ (wrote_unlock u signature preimage out).answer) × (out' ≡ (wrote_unlock u signature preimage out).bytes)
     unfolding wrote_unlock
     unlock_written g out' d = outcome_whole _ (unlock_bytes u signature preimage) out fits n len g out' d

@@ -11,12 +11,14 @@ use lib.Dec.{eqb, leb, lit<}
 use lib.ListN.{length, get_or, take, drop, set, length-append, length-take, get_or-eq_default}
 use lib.Seq.{take_at, drop_at, drop-drop, get_or_at, get_or-take, get_or-drop}
 use borrow.Author.Tests.{leb-true, leb-false}
+use Rattle.std.specs.Prelude.{Result, Ok, Err}
+use Rattle.fiber_refusal.specs.declared.Refusal.{Refusal}
+use Rattle.fiber_refusal.specs.declared.Refusal.TheVariants.{TlcCut, UnlockCut, NotWell}
 use Rattle.fiber_types.specs.declared.tlc.Tlc.{Tlc}
-use Rattle.fiber_types.specs.declared.tlc.TlcRead.TheVariants as TlcCase
 use Rattle.fiber_types.specs.declared.unlock.Unlock.{Unlock}
-use Rattle.fiber_types.specs.declared.unlock.UnlockRead.TheVariants as UnlockCase
 use Rattle.fiber_bytes.specs.Bytes.{part, le, le_bytes}
-use Rattle.fiber_types.specs.Records.{amount_of, amount_at, valid_hash_len, tlc_bytes, tlc_at, payment_hash, key_hash_in, read_tlc, witness_len, flag_byte, unlock_bytes, read_unlock}
+use Rattle.fiber_types.specs.HashLen.{valid_hash_len}
+use Rattle.fiber_types.specs.Records.{amount_of, amount_at, tlc_bytes, tlc_at, payment_hash, key_hash_in, read_tlc, witness_len, flag_byte, unlock_bytes, read_unlock}
 use Rattle.fiber_bytes.proofs.BytesLaws.{either, part_add, part_length, part_one, le_add, le_bytes_length}
 use Rattle.fiber_types.proofs.RecordsLaws.{tlc_bytes_length, unlock_bytes_length, tlc_whole, tlc_fields, unlock_whole, at_least, amount_both}
 
@@ -91,7 +93,7 @@ module _ (h : ℕ) (s : List ℕ) (at : ℕ) where
 
 -- What reading finds in s at a place: the TLC, and its three parts.
 pub record TlcBack (h : ℕ) (s : List ℕ) (at : ℕ) (t : Tlc) (a b c : List ℕ) : Type 0 where
-  pub tlc : read_tlc h s at ≡ TlcCase.Whole t
+  pub tlc : read_tlc h s at ≡ Ok t
   pub hash : payment_hash h (drop at s) ≡ a
   pub remote : key_hash_in h false (drop at s) ≡ b
   pub local : key_hash_in h true (drop at s) ≡ c
@@ -168,27 +170,27 @@ module _ (t : Tlc) (hash remote local p q : List ℕ) (w : TlcFits t) (k : valid
   -- What was written reads back.
   pub tlc_reads_back : TlcBack (length hash) whole (length p) t hash remote local
   tlc_reads_back = record {
-    tlc = tlc_whole (length hash) whole (length p) k room ∙ ap TlcCase.Whole (sym same);
+    tlc = tlc_whole (length hash) whole (length p) k room ∙ ap Ok (sym same);
     hash = hash_at (length hash) whole (length p) ∙ hash_part;
     remote = slot_at (length hash) whole (length p) false (length p + 17 + length hash) (omega arith) ∙ remote_part;
     local = slot_at (length hash) whole (length p) true (length p + 37 + length hash) (omega arith) ∙ local_part;
   }
 
 -- what a TLC that was read says of the slice
-tlc_read : (h : ℕ) (s : List ℕ) (at : ℕ) (t : Tlc) → read_tlc h s at ≡ TlcCase.Whole t
+tlc_read : (h : ℕ) (s : List ℕ) (at : ℕ) (t : Tlc) → read_tlc h s at ≡ Ok t
     → (at + (65 + h) ≤ length s) × (t ≡ tlc_at h s at)
 unfolding read_tlc
 tlc_read h s at t e = go (valid_hash_len h) (leb (at + (65 + h)) (length s)) refl e
   where
     go : (a b : Bool) → leb (at + (65 + h)) (length s) ≡ b
-        → cond a (cond b (TlcCase.Whole (tlc_at h s at)) (TlcCase.Refused 2 at)) (TlcCase.Refused 14 0) ≡ TlcCase.Whole t
+        → cond a (cond b (Ok (tlc_at h s at)) (Err (TlcCut at))) (Err NotWell) ≡ Ok t
         → (at + (65 + h) ≤ length s) × (t ≡ tlc_at h s at)
     go true true p e = (leb-true (at + (65 + h)) (length s) p, cc)
     go true false p e = let z : ◌≡◌ {A = ℕ} 0 1 = cc in absurd (omega arith)
     go false b p e = let z : ◌≡◌ {A = ℕ} 0 1 = cc in absurd (omega arith)
 
 -- What was read and written is the same bytes.
-pub tlc_same_bytes : (h : ℕ) (s : List ℕ) (at : ℕ) (t : Tlc) → Bytes s → read_tlc h s at ≡ TlcCase.Whole t
+pub tlc_same_bytes : (h : ℕ) (s : List ℕ) (at : ℕ) (t : Tlc) → Bytes s → read_tlc h s at ≡ Ok t
     → tlc_bytes t (payment_hash h (drop at s)) (key_hash_in h false (drop at s)) (key_hash_in h true (drop at s)) ≡ part s at (65 + h)
 unfolding tlc_bytes tlc_at amount_at
 tlc_same_bytes h s at t w e =
@@ -211,7 +213,7 @@ tlc_same_bytes h s at t w e =
 
 -- What reading finds in s at a place: the unlock, and its two parts.
 pub record UnlockBack (s : List ℕ) (at : ℕ) (u : Unlock) (a b : List ℕ) : Type 0 where
-  pub unlock : read_unlock s at ≡ UnlockCase.Whole u
+  pub unlock : read_unlock s at ≡ Ok u
   pub signature : part s (at + 2) 65 ≡ a
   pub preimage : part s (at + 67) (witness_len u.flag - 67) ≡ b
 
@@ -254,32 +256,32 @@ module _ (u : Unlock) (signature preimage p q : List ℕ) (e : length signature 
   unlock_reads_back = record {
     unlock =
         sym
-        (ap (λ (b : ℕ). UnlockCase.Whole (record { byte = b; flag = u.flag })) (sym byte_at)
+        (ap (λ (b : ℕ). Ok (record { byte = b; flag = u.flag })) (sym byte_at)
         ∙ unlock_whole witness (length p) u.flag (flag_back u.flag ∙ ap (λ (b : ℕ). eqb b 1) (sym flag_at)) fits);
     signature = signature_part;
     preimage = preimage_part;
   }
 
 -- what an unlock that was turned down says
-pub unlock_refused : (s : List ℕ) (at number place : ℕ) → read_unlock s at ≡ UnlockCase.Refused number place
-    → (length s < at + witness_len (eqb (get_or s (at + 1) 0) 1)) × ((number ≡ 4) × (place ≡ at))
+pub unlock_refused : (s : List ℕ) (at : ℕ) (r : Refusal) → read_unlock s at ≡ Err r
+    → (length s < at + witness_len (eqb (get_or s (at + 1) 0) 1)) × (r ≡ UnlockCut at)
 unfolding read_unlock
-unlock_refused s at number place e = go (leb (at + witness_len (eqb (get_or s (at + 1) 0) 1)) (length s)) refl e
+unlock_refused s at r e = go (leb (at + witness_len (eqb (get_or s (at + 1) 0) 1)) (length s)) refl e
   where
     go : (b : Bool) → leb (at + witness_len (eqb (get_or s (at + 1) 0) 1)) (length s) ≡ b
-        → cond b (UnlockCase.Whole (record { byte = get_or s at 0; flag = eqb (get_or s (at + 1) 0) 1 })) (UnlockCase.Refused 4 at) ≡ UnlockCase.Refused number place
-        → (length s < at + witness_len (eqb (get_or s (at + 1) 0) 1)) × ((number ≡ 4) × (place ≡ at))
-    go true q r = let z : ◌≡◌ {A = ℕ} 0 1 = cc in absurd (omega arith)
-    go false q r = (leb-false (at + witness_len (eqb (get_or s (at + 1) 0) 1)) (length s) q, (cc, cc))
+        → cond {A = Result Unlock Refusal} b (Ok (record { byte = get_or s at 0; flag = eqb (get_or s (at + 1) 0) 1 })) (Err (UnlockCut at)) ≡ Err r
+        → (length s < at + witness_len (eqb (get_or s (at + 1) 0) 1)) × (r ≡ UnlockCut at)
+    go true q f = let z : ◌≡◌ {A = ℕ} 0 1 = cc in absurd (omega arith)
+    go false q f = (leb-false (at + witness_len (eqb (get_or s (at + 1) 0) 1)) (length s) q, cc)
 
 -- what an unlock that was read says of the slice
-pub unlock_read : (s : List ℕ) (at : ℕ) (u : Unlock) → read_unlock s at ≡ UnlockCase.Whole u
+pub unlock_read : (s : List ℕ) (at : ℕ) (u : Unlock) → read_unlock s at ≡ Ok u
     → (at + witness_len u.flag ≤ length s) × (u ≡ record { byte = get_or s at 0; flag = eqb (get_or s (at + 1) 0) 1 })
 unfolding read_unlock
 unlock_read s at u e = go (eqb (get_or s (at + 1) 0) 1) (leb (at + witness_len (eqb (get_or s (at + 1) 0) 1)) (length s)) refl refl e
   where
     go : (a b : Bool) → eqb (get_or s (at + 1) 0) 1 ≡ a → leb (at + witness_len (eqb (get_or s (at + 1) 0) 1)) (length s) ≡ b
-        → cond b (UnlockCase.Whole (record { byte = get_or s at 0; flag = eqb (get_or s (at + 1) 0) 1 })) (UnlockCase.Refused 4 at) ≡ UnlockCase.Whole u
+        → cond b (Ok (record { byte = get_or s at 0; flag = eqb (get_or s (at + 1) 0) 1 })) (Err (UnlockCut at)) ≡ Ok u
         → (at + witness_len u.flag ≤ length s) × (u ≡ record { byte = get_or s at 0; flag = eqb (get_or s (at + 1) 0) 1 })
     go a true p q e =
         let r : u ≡ record { byte = get_or s at 0; flag = eqb (get_or s (at + 1) 0) 1 } = cc in
@@ -287,7 +289,7 @@ unlock_read s at u e = go (eqb (get_or s (at + 1) 0) 1) (leb (at + witness_len (
     go a false p q e = let z : ◌≡◌ {A = ℕ} 0 1 = cc in absurd (omega arith)
 
 -- What was read and written is the same bytes but for the flag, which is written as 0 or 1.
-pub unlock_same_bytes : (s : List ℕ) (at : ℕ) (u : Unlock) → read_unlock s at ≡ UnlockCase.Whole u
+pub unlock_same_bytes : (s : List ℕ) (at : ℕ) (u : Unlock) → read_unlock s at ≡ Ok u
     → unlock_bytes u (part s (at + 2) 65) (part s (at + 67) (witness_len u.flag - 67)) ≡ set (part s at (witness_len u.flag)) 1 (flag_byte u.flag)
 unfolding unlock_bytes
 unlock_same_bytes s at u e =

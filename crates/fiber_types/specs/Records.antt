@@ -1,16 +1,13 @@
 -- TLC records and unlocks; docs/SCOPE.md, "Records", with the numbers of its table.
-use Rattle.std.specs.Prelude.{ℕ, ◌+◌, ◌-◌, ◌*◌, ◌%◌, ◌^◌, ◌≡◌, Bool, cond, ◌&&◌, ◌||◌, List, ◌∷◌, ◌++◌, length, get_or, eqb, leb}
+use Rattle.std.specs.Prelude.{ℕ, ◌+◌, ◌-◌, ◌*◌, ◌%◌, ◌^◌, ◌≡◌, Bool, cond, ◌&&◌, ◌||◌, List, ◌∷◌, ◌++◌, length, get_or, eqb, leb, Result, Ok, Err}
 use Rattle.std.proofs.lemmas.List.Edits.{sets}
-use Rattle.fiber_types.specs.declared.answer.Written.{Written}
-use Rattle.fiber_types.specs.declared.answer.Written.TheVariants as WrittenCase
+use Rattle.fiber_refusal.specs.declared.Refusal.{Refusal}
+use Rattle.fiber_refusal.specs.declared.Refusal.TheVariants.{TlcCut, UnlockCut, OutputShort, NotWell}
 use Rattle.fiber_types.specs.declared.tlc.Amount.{Amount}
 use Rattle.fiber_types.specs.declared.tlc.Tlc.{Tlc}
-use Rattle.fiber_types.specs.declared.tlc.TlcRead.{TlcRead}
-use Rattle.fiber_types.specs.declared.tlc.TlcRead.TheVariants as TlcCase
 use Rattle.fiber_types.specs.declared.unlock.Unlock.{Unlock}
-use Rattle.fiber_types.specs.declared.unlock.UnlockRead.{UnlockRead}
-use Rattle.fiber_types.specs.declared.unlock.UnlockRead.TheVariants as UnlockCase
 use Rattle.fiber_bytes.specs.Bytes.{part, le, le_bytes}
+use Rattle.fiber_types.specs.HashLen.{valid_hash_len}
 
 -- ---- what writers answer
 
@@ -28,13 +25,13 @@ abbrev pub unwritten : {A : Type 0} → A → List ℕ → Outcome A
 unwritten answer out = record { answer = answer; bytes = out }
 
 -- bytes to the front of an output: 14 where what they are made of does not fit the layout, then 13, at the bytes needed
-unfoldable pub outcome : Bool → List ℕ → List ℕ → Outcome Written
+unfoldable pub outcome : Bool → List ℕ → List ℕ → Outcome (Result ℕ Refusal)
 outcome fits bytes out =
     cond fits
     (cond (leb (length bytes) (length out))
-    (record { answer = WrittenCase.Bytes (length bytes); bytes = sets out 0 bytes })
-    (unwritten (WrittenCase.Refused 13 (length bytes)) out))
-    (unwritten (WrittenCase.Refused 14 0) out)
+    (record { answer = Ok (length bytes); bytes = sets out 0 bytes })
+    (unwritten (Err (OutputShort (length bytes))) out))
+    (unwritten (Err NotWell) out)
 
 -- ---- amounts: 16 bytes, as two halves of 64 bits
 
@@ -46,10 +43,6 @@ unfoldable pub amount_at : List ℕ → ℕ → Amount
 amount_at s at = record { low = le (part s at 8); high = le (part s (at + 8) 8) }
 
 -- ---- TLCs
-
--- h is 20, or 32 on a channel with full hashes
-unfoldable pub valid_hash_len : ℕ → Bool
-valid_hash_len h = eqb h 20 || eqb h 32
 
 -- type bit 0 clear: offered
 unfoldable pub is_offered : Tlc → Bool
@@ -73,15 +66,15 @@ unfoldable pub key_hash_in : ℕ → Bool → List ℕ → List ℕ
 key_hash_in h local r = part r (cond local 37 17 + h) 20
 
 -- 14, then a TLC cut short: 2 at its first byte
-unfoldable pub read_tlc : ℕ → List ℕ → ℕ → TlcRead
+unfoldable pub read_tlc : ℕ → List ℕ → ℕ → Result Tlc Refusal
 read_tlc h s at =
     cond (valid_hash_len h)
     (cond (leb (at + (65 + h)) (length s))
-    (TlcCase.Whole (tlc_at h s at))
-    (TlcCase.Refused 2 at))
-    (TlcCase.Refused 14 0)
+    (Ok (tlc_at h s at))
+    (Err (TlcCut at)))
+    (Err NotWell)
 
-unfoldable pub wrote_tlc : Tlc → List ℕ → List ℕ → List ℕ → List ℕ → Outcome Written
+unfoldable pub wrote_tlc : Tlc → List ℕ → List ℕ → List ℕ → List ℕ → Outcome (Result ℕ Refusal)
 wrote_tlc t hash remote local out =
     outcome (valid_hash_len (length hash) && eqb (length remote) 20 && eqb (length local) 20) (tlc_bytes t hash remote local) out
 
@@ -99,13 +92,13 @@ unfoldable pub unlock_bytes : Unlock → List ℕ → List ℕ → List ℕ
 unlock_bytes u signature preimage = u.byte ∷ (flag_byte u.flag ∷ (signature ++ preimage))
 
 -- every flag but 1 is read as none; an unlock below 67 bytes, or below 99 with flag 1: 4 at its first byte
-unfoldable pub read_unlock : List ℕ → ℕ → UnlockRead
+unfoldable pub read_unlock : List ℕ → ℕ → Result Unlock Refusal
 read_unlock s at =
     let flag = eqb (get_or s (at + 1) 0) 1 in
     cond (leb (at + witness_len flag) (length s))
-    (UnlockCase.Whole (record { byte = get_or s at 0; flag = flag }))
-    (UnlockCase.Refused 4 at)
+    (Ok (record { byte = get_or s at 0; flag = flag }))
+    (Err (UnlockCut at))
 
-unfoldable pub wrote_unlock : Unlock → List ℕ → List ℕ → List ℕ → Outcome Written
+unfoldable pub wrote_unlock : Unlock → List ℕ → List ℕ → List ℕ → Outcome (Result ℕ Refusal)
 wrote_unlock u signature preimage out =
     outcome (eqb (length signature) 65 && eqb (length preimage) (witness_len u.flag - 67)) (unlock_bytes u signature preimage) out

@@ -2,42 +2,20 @@
 ghost use Rattle.std.specs.Prelude.{◌≡◌};
 ghost use Rattle.fiber_types.specs.Key as S;
 
-use crate::layout::KEY;
+use crate::layout::{KEY, KEY_HASH};
 use fiber_blake2b::blake2b::ckb_hash;
-use fiber_bytes::put;
-
-#[derive(Clone, Copy)]
-pub enum KeyAnswer {
-    Taken,
-    // Turned down by a row of document 01's table.
-    Refused { number: usize, place: usize },
-}
-
-// A key's hash, or 20 zeros where the key is turned down.
-#[derive(Clone, Copy)]
-pub struct KeyHash {
-    pub answer: KeyAnswer,
-    pub bytes: [u8; 20],
-}
+use fiber_refusal::Refusal;
 
 // The hash of a public key of 33 bytes.
-pub fn key_hash(key: &[u8]) -> KeyHash
+#[tactic(auto, unfolding(crate::specs::Key::key_hash))]
+pub fn key_hash(key: &[u8]) -> Result<[u8; KEY_HASH], Refusal>
     ensures { result ≡ S.key_hash key.now }
 {
     if key.len() != KEY {
-        return KeyHash {
-            answer: KeyAnswer::Refused {
-                number: 14,
-                place: 0,
-            },
-            bytes: [0u8; 20],
-        };
+        return Err(Refusal::NotWell);
     }
     let digest = ckb_hash(key);
-    let mut bytes = [0u8; 20];
-    put(&mut bytes, 0, &digest);
-    KeyHash {
-        answer: KeyAnswer::Taken,
-        bytes,
-    }
+    let mut bytes = [0; KEY_HASH];
+    bytes.copy_from_slice(&digest[..KEY_HASH]);
+    Ok(bytes)
 }

@@ -2,8 +2,10 @@
 // FIBER_SETTLEMENT_ in front, and tools/header compares the two. A name that says no part is a length. The contracts speak of these by
 // definitions of their own, from document 01, so that a wrong number here is refused.
 
-// A public key.
+// A public key, and its hash.
 pub const KEY: usize = 33;
+
+pub const KEY_HASH: usize = 20;
 
 // A TLC record has this many bytes beside its hash of h bytes.
 pub const RECORD_FIXED: usize = 65;

@@ -11,11 +11,12 @@ use Rattle.fiber_blake2b.specs.Blake2b.{words, params, iv, sigma, added, turned,
 use Rattle.fiber_since.specs.Since.{metric_of, since}
 use Rattle.fiber_since.specs.Epoch.{epoch_of, within_bits, units, factor, normalized, scaled, due}
 use Rattle.fiber_types.specs.Key.{key_hash}
-use Rattle.fiber_types.specs.Records.{amount_at, valid_hash_len, tlc_bytes}
+use Rattle.fiber_types.specs.HashLen.{valid_hash_len}
+use Rattle.fiber_types.specs.Records.{amount_at, tlc_bytes}
 use Rattle.fiber_witness.specs.Witness.{chunks}
 use Rattle.fiber_choice.specs.declared.kinds.Cause.TheVariants as CauseCase
 use Rattle.fiber_choice.specs.declared.kinds.Wait.TheVariants as WaitCase
-use Rattle.fiber_choice.specs.Entries.{same, same_lists, entries, all, find_first, valid_settlement, valid_tracked, tracked_records}
+use Rattle.fiber_choice.specs.Entries.{same_lists, entries, valid_settlement, valid_tracked, tracked_records}
 use Rattle.fiber_choice.specs.Request.{Request, valid_data, valid_request, delay_of}
 use Rattle.fiber_choice.specs.Preimages.{find_pair, if_counts, counting_pair}
 use Rattle.fiber_choice.specs.FirstRecords.{first_record, first_records}
@@ -50,7 +51,7 @@ request = record {
 }
 
 waits : WaitsFor request false [] [] (WaitCase.Tlc 1 CauseCase.NotExpired)
-unfolding tlc tracked request le le_bytes rotated words flat_map params iv sigma added turned half mixed columns diagonals round rounds start folded compressed initial absorbed hashed chain blake2b ckb_personal ckb_hash metric_of since epoch_of within_bits units factor normalized scaled due key_hash amount_at valid_hash_len tlc_bytes chunks same same_lists entries all valid_settlement valid_tracked tracked_records valid_data valid_request delay_of first_record first_records timeout_kind step_of onward walk or_share dues_by by_pair first_verdict counting_pair if_counts find_pair find_first verdict verdicts may_share walked cause_number wait_number status_by or_behind first_pending or_wait if_ready first_thirds lengths_zero first_ready first after_delay choice_of
+unfolding tlc tracked request le le_bytes rotated words flat_map params iv sigma added turned half mixed columns diagonals round rounds start folded compressed initial absorbed hashed chain blake2b ckb_personal ckb_hash metric_of since epoch_of within_bits units factor normalized scaled due key_hash amount_at valid_hash_len tlc_bytes chunks same_lists entries valid_settlement valid_tracked tracked_records valid_data valid_request delay_of first_record first_records timeout_kind step_of onward walk or_share dues_by by_pair first_verdict counting_pair if_counts find_pair verdict verdicts may_share walked cause_number wait_number status_by or_behind first_pending or_wait if_ready first_thirds lengths_zero first_ready first after_delay choice_of
 waits = (refl, omega arith)
 
 promised : Waiting request false [] (WaitCase.Tlc 1 CauseCase.NotExpired)

@@ -6,10 +6,9 @@ use mathlib.Core.Path.{◌≡◌, refl, sym, ap, subst, ◌∙◌}
 use mathlib.Core.List.{List}
 use lib.ListN.{length, get_or, take, drop}
 use lib.Seq.{sets, sets-eq, take_at}
-use Rattle.fiber_types.specs.declared.answer.Written.{Written}
-use Rattle.fiber_types.specs.declared.answer.Written.TheVariants as WrittenCase
-use Rattle.fiber_witness.specs.declared.witness.WitnessRead.{WitnessRead}
-use Rattle.fiber_witness.specs.declared.witness.WitnessRead.TheVariants as ReadCase
+use Rattle.std.specs.Prelude.{Result, Ok, Err}
+use Rattle.fiber_refusal.specs.declared.Refusal.{Refusal}
+use Rattle.fiber_witness.specs.declared.witness.WitnessLayout.{WitnessLayout}
 use Rattle.fiber_witness.specs.Witness.{record_len, state_bytes, places, read_witness}
 use Rattle.fiber_witness.specs.Update.{Taken, none, state_left, Unlocked, by_read, unlocked, written, updated, state_after, standing}
 use Rattle.fiber_witness.proofs.WitnessLaws.{Fine, FineRead, fine}
@@ -28,9 +27,9 @@ pub record Whole (h : ℕ) (s : List ℕ) : Type 0 where
   pub size : 73 + get_or s 0 0 * record_len h ≡ length s
 
 -- of an update that was turned down, nothing is said
-abbrev pub Left : ℕ → List ℕ → Written → Type 0
-Left h o (WrittenCase.Bytes len) = Whole h (take len o)
-Left h o (WrittenCase.Refused number place) = Unit {0}
+abbrev pub Left : ℕ → List ℕ → Result ℕ Refusal → Type 0
+Left h o (Ok len) = Whole h (take len o)
+Left h o (Err r) = Unit {0}
 
 module _ (h : ℕ) (w out : List ℕ) (n share_place first : ℕ) (f : Fine h w n share_place first) where
   -- the state left is whole
@@ -45,13 +44,13 @@ module _ (h : ℕ) (w out : List ℕ) (n share_place first : ℕ) (f : Fine h w 
   unfolding written
   left_unlocked (comes_fine t) =
       outcome_by (Left h) (state_left h w n share_place t) out (λ g. subst (Whole h) (sym (take_sets out (state_left h w n share_place t) g)) (whole_state t)) tt
-  left_unlocked (comes_faulty number place z) = tt
+  left_unlocked (comes_faulty r) = tt
 
 -- What an update that was taken leaves is a whole state.
 pub left : (h : ℕ) (w out : List ℕ) → Left h (updated h w out).bytes (updated h w out).answer
 unfolding updated unlocked by_read written
 left h w out = go (read_witness h w) (fine h w)
   where
-    go : (r : WitnessRead) → FineRead h w r → Left h (written h w out (by_read w r)).bytes (written h w out (by_read w r)).answer
-    go (ReadCase.Whole n k share_place first) f = left_unlocked h w out n share_place first f (unlocks_come n share_place w none (places w first))
-    go (ReadCase.Refused number place) f = tt
+    go : (r : Result WitnessLayout Refusal) → FineRead h w r → Left h (written h w out (by_read w r)).bytes (written h w out (by_read w r)).answer
+    go (Ok l) f = left_unlocked h w out l.n l.share_place l.first_unlock f (unlocks_come l.n l.share_place w none (places w l.first_unlock))
+    go (Err q) f = tt

@@ -9,9 +9,8 @@ use lib.ListN.{length, get_or, take, drop, length-append, length-drop}
 use lib.Seq.{drop-cons, drop-drop, take_at, drop_at, take_all}
 use Rattle.fiber_bytes.specs.Bytes.{part}
 use Rattle.fiber_bytes.proofs.BytesLaws.{part_add, part_length}
-use Rattle.fiber_types.specs.Records.{valid_hash_len}
-use Rattle.fiber_witness.specs.declared.witness.WitnessRead.TheVariants.{Whole, Refused}
-use Rattle.fiber_witness.specs.Witness.{record_len, chunks, state_bytes, places, unless_cut, read_unlocks, read_tlcs, read_witness}
+use Rattle.fiber_types.specs.HashLen.{valid_hash_len}
+use Rattle.fiber_witness.specs.Witness.{record_len, chunks, state_bytes, places, unless_cut, read_unlocks, read_tlcs, read_witness, whole, cut_at}
 use Rattle.fiber_witness.specs.Update.{Taken, keep, share_left, state_left, state_after}
 use Rattle.fiber_witness.specs.inner.Strided.{behind_tlcs}
 use Rattle.fiber_witness.proofs.WitnessLaws.{shares_whole, witness_tlcs, Even, flatten_even, records_even, records_length, even_records, flatten_records, state_size}
@@ -103,14 +102,14 @@ module _ {h : ℕ} {rs : List (List ℕ)} {R L : List ℕ} (ok : Sound h rs R L)
 
     -- it is whole but for its unlocks
     pub read_sound : read_witness h w
-        ≡ unless_cut w (places w (1 + length (state_bytes rs R L))) (Refused 4)
-        (Whole (length rs) (length (places w (1 + length (state_bytes rs R L)))) (behind_tlcs h (length rs)) (1 + length (state_bytes rs R L)))
+        ≡ unless_cut w (places w (1 + length (state_bytes rs R L))) cut_at
+        (whole (length rs) (length (places w (1 + length (state_bytes rs R L)))) (behind_tlcs h (length rs)) (1 + length (state_bytes rs R L)))
     unfolding read_unlocks
     read_sound =
         sym (witness_tlcs h w ok.hash (omega (arith, w_room)))
         ∙ ap (λ (n : ℕ). read_tlcs n h w n 2) w_count
         ∙ sym (shares_whole h w (length rs) (omega (arith, w_room)) w_room)
-        ∙ ap (λ (f : ℕ). unless_cut w (places w f) (Refused 4) (Whole (length rs) (length (places w f)) (behind_tlcs h (length rs)) f)) first_place_lem
+        ∙ ap (λ (f : ℕ). unless_cut w (places w f) cut_at (whole (length rs) (length (places w f)) (behind_tlcs h (length rs)) f)) first_place_lem
 
     -- what unlocks leave of the witness is what they leave of the state
     pub state_left_lem : (t : Taken)

@@ -56,17 +56,23 @@ module _ (h : ℕ) (s : List ℕ) (from stride n : ℕ) (marks : List Bool) wher
   unfolding unmarked
   unmarked_keep settled m = keep_marked marks settled m 0 (strided (record_len h) stride n s from)
 
+-- and a count of those that are kept, whatever they are, is theirs
+pub unmarked_count : (h : ℕ) (s : List ℕ) (from stride n : ℕ) (marks : List Bool) (k : ℕ) → ((rs : List (List ℕ)) → length rs ≡ n → k ≡ length (keep (marked marks) 0 rs))
+    → k ≡ length (unmarked h s from stride n marks)
+unfolding unmarked
+unmarked_count h s from stride n marks k f = f (strided (record_len h) stride n s from) (strided_length (record_len h) stride n s from)
+
 -- one mark alone
 pub marks_one : (marks : List Bool) (place : ℕ) → marks ≡ no_marks → place ≤ 255 → Marks (set marks place true) (place ∷ [])
 unfolding no_marks
 marks_one marks place e g = rw e (marks_set no_marks [] place (omega arith) marks_none)
 
 -- with two shares, unlocked or not, they are the state left
-pub unmarked_left : (h : ℕ) (w : List ℕ) (n share_place : ℕ) (marks : List Bool) (remote local : Bool) (out o : List ℕ)
-    → o ≡ sets out 0 (state_bytes (unmarked h w 2 (record_len h) n marks) (share_left remote (take (share_place + 36 - share_place) (drop share_place w))) (share_left local (take (share_place + 36 + 36 - (share_place + 36)) (drop (share_place + 36) w))))
-    → o ≡ sets out 0 (state_left h w n share_place (record { settled = marked marks; remote = remote; local = local }))
+pub unmarked_left : (h : ℕ) (w : List ℕ) (n share_place : ℕ) (marks : List Bool) (remote local : Bool)
+    → state_bytes (unmarked h w 2 (record_len h) n marks) (share_left remote (part w share_place 36)) (share_left local (part w (share_place + 36) 36))
+    ≡ state_left h w n share_place (record { settled = marked marks; remote = remote; local = local })
 unfolding state_left state_after standing
-unmarked_left h w n share_place marks remote local out o e = e ∙ rw (part_between w share_place 36, part_between w (share_place + 36) 36, unmarked_standing h w n marks)
+unmarked_left h w n share_place marks remote local = rw (unmarked_standing h w n marks)
 
 -- ---- writing the records that are not marked
 

@@ -14,18 +14,19 @@ use borrow.Author.Tests.{lt-ltb, le-ltb, eq-eqb, ne_eqb, eqb-true, eqb-false}
 use Rattle.fiber_bytes.specs.Bytes.{part}
 use Rattle.fiber_bytes.proofs.BytesLaws.{part_length}
 use Rattle.fiber_bytes.proofs.CaseLaws.{by_test}
-use Rattle.fiber_types.specs.declared.answer.Written.{Written}
-use Rattle.fiber_types.specs.declared.answer.Written.TheVariants as WrittenCase
+use Rattle.std.proofs.lemmas.List.Sums.{sum_by-cons}
+use Rattle.std.specs.Prelude.{Result, Ok, Err, count_by, not}
+use Rattle.fiber_refusal.specs.declared.Refusal.{Refusal}
+use Rattle.fiber_refusal.specs.declared.Refusal.TheVariants.{UnlockUnknown, SettledTwice, OutputShort}
 use Rattle.fiber_types.specs.Records.{Outcome, outcome}
 use Rattle.fiber_types.proofs.RecordsLaws.{outcome_short, outcome_whole}
-use Rattle.fiber_witness.specs.declared.witness.WitnessRead.{WitnessRead}
-use Rattle.fiber_witness.specs.declared.witness.WitnessRead.TheVariants as ReadCase
-use Rattle.fiber_witness.specs.declared.unlocks.UnlocksAnswer.{UnlocksAnswer}
-use Rattle.fiber_witness.specs.declared.unlocks.UnlocksAnswer.TheVariants as UnlocksCase
+use Rattle.fiber_witness.specs.declared.witness.WitnessLayout.{WitnessLayout}
+use Rattle.fiber_witness.specs.declared.unlocks.TakenUnlocks.{TakenUnlocks}
 use Rattle.fiber_witness.specs.Witness.{record_len, unlock_len, chunks, member, places, read_witness}
 use Rattle.fiber_witness.specs.Update.{Taken, none, Unlocked, fine, faulty, take_unlocks, keep, share_left, standing, state_left, by_read, unlocked, written, updated, state_after}
 use Rattle.fiber_witness.specs.inner.Strided.{behind_tlcs}
-use Rattle.fiber_witness.specs.inner.Marks.{Marks, marked_from, marked, no_marks, TakesAs}
+use Rattle.fiber_witness.specs.inner.Marks.{Marks, marked_from, marked, no_marks}
+use Rattle.fiber_witness.specs.inner.Taking.{TakesAs}
 use Rattle.fiber_witness.proofs.WitnessLaws as WitnessCase
 use Rattle.fiber_witness.proofs.WitnessLaws.{FineRead, places_nil, places_cons, read_fine, Even, even_none, even_more, flatten_even, records_length, even_records, state_size}
 
@@ -160,16 +161,16 @@ pub unlocks_more : (n share_place : ℕ) (w : List ℕ) (t : Taken) (p : ℕ) (p
     ≡ cond (eqb (get_or w p 0) 255) (take_unlocks n share_place w (record { settled = t.settled; remote = t.remote; local = true }) ps)
     (cond (eqb (get_or w p 0) 254) (take_unlocks n share_place w (record { settled = t.settled; remote = true; local = t.local }) ps)
     (cond (ltb (get_or w p 0) n)
-    (cond (member (get_or w p 0) t.settled) (faulty 6 p)
+    (cond (member (get_or w p 0) t.settled) (faulty (SettledTwice p))
     (take_unlocks n share_place w (record { settled = get_or w p 0 ∷ t.settled; remote = t.remote; local = t.local }) ps))
-    (faulty 5 p)))
+    (faulty (UnlockUnknown p))))
 unfolding take_unlocks
 unlocks_more n share_place w t p ps = refl
 
--- unlocks are fine of the TLCs and the shares that they were taken of, or are turned down by a number that is not 0
+-- unlocks are fine of the TLCs and the shares that they were taken of, or are turned down
 pub data Comes (n share_place : ℕ) : Unlocked → Type 0 where
   comes_fine : (t : Taken) → Comes n share_place (fine n share_place t)
-  comes_faulty : (k p : ℕ) → (k ≡ 0 → ⊥) → Comes n share_place (faulty k p)
+  comes_faulty : (r : Refusal) → Comes n share_place (faulty r)
 
 pub unlocks_come : (n share_place : ℕ) (w : List ℕ) (t : Taken) (ps : List ℕ) → Comes n share_place (take_unlocks n share_place w t ps)
 unfolding take_unlocks
@@ -180,13 +181,13 @@ unlocks_come n share_place w t (p ∷ ps) =
     (λ _. by_test (Comes n share_place) (eqb (get_or w p 0) 254) _ _
     (λ _. unlocks_come n share_place w _ ps)
     (λ _. by_test (Comes n share_place) (ltb (get_or w p 0) n) _ _
-    (λ _. by_test (Comes n share_place) (member (get_or w p 0) t.settled) _ _ (λ _. comes_faulty 6 p (omega arith)) (λ _. unlocks_come n share_place w _ ps))
-    (λ _. comes_faulty 5 p (omega arith))))
+    (λ _. by_test (Comes n share_place) (member (get_or w p 0) t.settled) _ _ (λ _. comes_faulty (SettledTwice p)) (λ _. unlocks_come n share_place w _ ps))
+    (λ _. comes_faulty (UnlockUnknown p))))
 
 -- all are fine, and take this
 abbrev pub Ends : Unlocked → Taken → Type 0
 Ends (fine n share_place t) u = t ≡ u
-Ends (faulty k p) u = ⊥
+Ends (faulty r) u = ⊥
 
 -- unlocks that are all fine, with marks and shares that say what they took
 pub record All (n share_place : ℕ) (marks : List Bool) (remote local : Bool) (x : Unlocked) : Type 0 where
@@ -197,16 +198,15 @@ pub record All (n share_place : ℕ) (marks : List Bool) (remote local : Bool) (
   pub local_is : local ≡ taken.local
 
 -- what `take_unlocks` answers tells which it is
-module _ {n share_place : ℕ} (v : UnlocksAnswer) (marks : List Bool) (remote local : Bool) where
-  pub takes_all : {x : Unlocked} → Comes n share_place x → TakesAs x v marks remote local → v ≡ UnlocksCase.Fine → All n share_place marks remote local x
-  unfolding TakesAs
-  takes_all (comes_fine t) j e = record { taken = t; is = refl; says = j.1.0; remote_is = j.1.1.0; local_is = j.1.1.1 }
-  takes_all (comes_faulty k p z) j e = let o : ◌≡◌ {A = ℕ} 0 1 = cc in absurd (omega arith)
+pub takes_all : {n share_place : ℕ} {x : Unlocked} (v : TakenUnlocks) → Comes n share_place x → TakesAs x (Ok v) → All n share_place v.settled v.remote v.local x
+unfolding TakesAs
+takes_all v (comes_fine t) j = record { taken = t; is = refl; says = j.0; remote_is = j.1.0; local_is = j.1.1 }
+takes_all v (comes_faulty r) j = absurd j
 
-  pub takes_faulty : {x : Unlocked} → Comes n share_place x → TakesAs x v marks remote local → (k p : ℕ) → v ≡ UnlocksCase.Refused k p → x ≡ faulty k p
-  unfolding TakesAs
-  takes_faulty (comes_fine t) j k p e = let f = j.0 in let o : ◌≡◌ {A = ℕ} 0 1 = cc in absurd (omega arith)
-  takes_faulty (comes_faulty l q z) j k p e = cc
+pub takes_faulty : {n share_place : ℕ} {x : Unlocked} (r : Refusal) → Comes n share_place x → TakesAs x (Err r) → x ≡ faulty r
+unfolding TakesAs
+takes_faulty r (comes_fine t) j = absurd j
+takes_faulty r (comes_faulty q) j = ap faulty (sym j)
 
 -- The loop over the unlocks, at place at: to take the rest, from what was taken, gives what taking all gives.
 pub record Taking (n : ℕ) (w : List ℕ) (first : ℕ) (marks : List Bool) (remote local : Bool) (at : ℕ) : Type 0 where
@@ -225,15 +225,15 @@ module _ (n : ℕ) (w : List ℕ) (first : ℕ) (marks : List Bool) (remote loca
   all share_place = take_unlocks n share_place w none (places w first)
 
   -- at the end every unlock is taken
-  pub taking_end : length w ≤ at → (share_place : ℕ) → TakesAs (all share_place) UnlocksCase.Fine marks remote local
+  pub taking_end : length w ≤ at → (share_place : ℕ) → TakesAs (all share_place) (Ok (record { settled = marks; remote = remote; local = local }))
   unfolding take_unlocks TakesAs
   taking_end h share_place =
-      subst (λ (x : Unlocked). TakesAs x UnlocksCase.Fine marks remote local) (rw (places_nil w at h) at (c.rest share_place)) (refl, (c.says, (refl, refl)))
+      subst (λ (x : Unlocked). TakesAs x (Ok (record { settled = marks; remote = remote; local = local }))) (rw (places_nil w at h) at (c.rest share_place)) (c.says, (refl, refl))
 
-  -- turned down by a row: whatever the marks and the shares
-  turned : (v : UnlocksAnswer) (k p share_place : ℕ) → v ≡ UnlocksCase.Refused k p → faulty k p ≡ all share_place → (m : List Bool) (r l : Bool) → TakesAs (all share_place) v m r l
+  -- turned down by a row
+  turned : (r : Refusal) (share_place : ℕ) → faulty r ≡ all share_place → TakesAs (all share_place) (Err r)
   unfolding TakesAs
-  turned v k p share_place e f m r l = subst (λ (x : Unlocked). TakesAs x v m r l) f e
+  turned r share_place f = subst (λ (x : Unlocked). TakesAs x (Err r)) f refl
 
   module _ (h : at < length w) where
     -- 0xFF
@@ -249,19 +249,19 @@ module _ (n : ℕ) (w : List ℕ) (first : ℕ) (marks : List Bool) (remote loca
 
       module _ (b : get_or w at 0 ≡ 254 → ⊥) where
         -- row 5
-        pub taking_beyond : n ≤ get_or w at 0 → (v : UnlocksAnswer) → v ≡ UnlocksCase.Refused 5 at → (m : List Bool) (r l : Bool) (share_place : ℕ) → TakesAs (all share_place) v m r l
+        pub taking_beyond : n ≤ get_or w at 0 → (share_place : ℕ) → TakesAs (all share_place) (Err (UnlockUnknown at))
         unfolding take_unlocks
-        taking_beyond f v e m r l share_place =
-            turned v 5 at share_place e
-            (rw (places_cons w at h, ne_eqb (get_or w at 0) 255 a, ne_eqb (get_or w at 0) 254 b, le-ltb (get_or w at 0) n f) at (c.rest share_place)) m r l
+        taking_beyond f share_place =
+            turned (UnlockUnknown at) share_place
+            (rw (places_cons w at h, ne_eqb (get_or w at 0) 255 a, ne_eqb (get_or w at 0) 254 b, le-ltb (get_or w at 0) n f) at (c.rest share_place))
 
         module _ (f : get_or w at 0 < n) where
           -- row 6
-          pub taking_twice : get_or marks (get_or w at 0) false ≡ true → (v : UnlocksAnswer) → v ≡ UnlocksCase.Refused 6 at → (m : List Bool) (r l : Bool) (share_place : ℕ) → TakesAs (all share_place) v m r l
+          pub taking_twice : get_or marks (get_or w at 0) false ≡ true → (share_place : ℕ) → TakesAs (all share_place) (Err (SettledTwice at))
           unfolding take_unlocks Marks
-          taking_twice d v e m r l share_place =
-              turned v 6 at share_place e
-              (rw (places_cons w at h, ne_eqb (get_or w at 0) 255 a, ne_eqb (get_or w at 0) 254 b, lt-ltb (get_or w at 0) n f, sym (c.says (get_or w at 0)) ∙ d) at (c.rest share_place)) m r l
+          taking_twice d share_place =
+              turned (SettledTwice at) share_place
+              (rw (places_cons w at h, ne_eqb (get_or w at 0) 255 a, ne_eqb (get_or w at 0) 254 b, lt-ltb (get_or w at 0) n f, sym (c.says (get_or w at 0)) ∙ d) at (c.rest share_place))
 
           -- a TLC
           pub taking_tlc : get_or w at 0 < 256 → get_or marks (get_or w at 0) false ≡ false → Taking n w first (set marks (get_or w at 0) true) remote local (at + unlock_len w at)
@@ -275,46 +275,21 @@ module _ (n : ℕ) (w : List ℕ) (first : ℕ) (marks : List Bool) (remote loca
 
 -- ---- counting the records that stand
 
--- The loop that counts: k and those kept from place i on are all that are kept.
-pub record Counting (n : ℕ) (marks : List Bool) (k i : ℕ) : Type 0 where
-  pub low : i ≤ n
-  pub few : k ≤ i
-  pub all : (rs : List (List ℕ)) → length rs ≡ n → k + length (keep (marked marks) i (drop i rs)) ≡ length (keep (marked marks) 0 rs)
+-- those that are kept from place i on are as many as the marks there that are not set
+counted_from : (marks : List Bool) (rs : List (List ℕ)) (i : ℕ) → i + length rs ≤ length marks → count_by not (take (length rs) (drop i marks)) ≡ length (keep (marked marks) i rs)
+unfolding keep Marks
+counted_from marks [] i h = refl
+counted_from marks (r ∷ rs) i h =
+    let m : drop i marks ≡ get_or marks i false ∷ drop (i + 1) marks = rw add-one (drop-cons marks i false (omega arith)) in
+    let next : count_by not (take (length rs) (drop (i + 1) marks)) ≡ length (keep (marked marks) (i + 1) rs) = counted_from marks rs (i + 1) (omega arith) in
+    rw (m, sym (marks_marked marks i)) (go (get_or marks i false) (take (length rs) (drop (i + 1) marks)) (keep (marked marks) (i + 1) rs) next)
+  where
+    go : (b : Bool) (l : List Bool) (ks : List (List ℕ)) → count_by not l ≡ length ks → count_by not (b ∷ l) ≡ length (cond b ks (r ∷ ks))
+    go true l ks e = sum_by-cons (λ x. cond (not x) 1 0) true l ∙ omega (arith, e)
+    go false l ks e = sum_by-cons (λ x. cond (not x) 1 0) false l ∙ omega (arith, e)
 
--- before the first, none is counted
-pub counting_start : (n : ℕ) (marks : List Bool) → Counting n marks 0 0
-counting_start n marks = record { low = omega arith; few = omega arith; all = λ rs e. omega arith }
-
-module _ (n : ℕ) (marks : List Bool) (k i : ℕ) (c : Counting n marks k i) where
-  -- at the end all are counted
-  pub counting_end : n ≤ i → (rs : List (List ℕ)) → length rs ≡ n → k ≡ length (keep (marked marks) 0 rs)
-  unfolding keep
-  counting_end h rs e =
-      let g : length rs ≤ i = omega arith in
-      omega (arith, c.all rs e, ap (λ (l : List (List ℕ)). length (keep (marked marks) i l)) (drop_of_length-le rs g))
-
-  module _ (h : i < n) where
-    -- those kept from place i on, by its mark
-    next : (rs : List (List ℕ)) → length rs ≡ n → (b : Bool) → get_or marks i false ≡ b
-        → keep (marked marks) i (drop i rs) ≡ cond b (keep (marked marks) (i + 1) (drop (i + 1) rs)) (get_or rs i [] ∷ keep (marked marks) (i + 1) (drop (i + 1) rs))
-    unfolding Marks
-    next rs e b m = rw (sym (marks_marked marks i) ∙ m) at (keep_cons (marked marks) rs i (omega arith))
-
-    -- a record that stands is counted
-    pub counting_kept : get_or marks i false ≡ false → Counting n marks (k + 1) (i + 1)
-    counting_kept m = record {
-      low = omega arith;
-      few = omega (arith, c.few);
-      all = λ rs e. omega (arith, c.all rs e, ap length (next rs e false m));
-    }
-
-    -- one that is settled is not
-    pub counting_gone : get_or marks i false ≡ true → Counting n marks k (i + 1)
-    counting_gone m = record {
-      low = omega arith;
-      few = omega (arith, c.few);
-      all = λ rs e. omega (arith, c.all rs e, ap length (next rs e true m));
-    }
+pub counted_standing : (n : ℕ) (marks : List Bool) → n ≤ length marks → (rs : List (List ℕ)) → length rs ≡ n → count_by not (take n marks) ≡ length (keep (marked marks) 0 rs)
+counted_standing n marks h rs e = rw (← e) (counted_from marks rs 0 (omega arith))
 
 -- ---- stores to a part
 
@@ -396,59 +371,58 @@ module _ (h : ℕ) (w : List ℕ) (n : ℕ) (settled : List ℕ) (k : ℕ) (f : 
       omega (arith, state_length h w n (behind_tlcs h n) (record { settled = settled; remote = remote; local = local }) g, counted_flat (omega arith))
 
 -- with the answer of `take_unlocks`
-module _ (h : ℕ) (w out : List ℕ) (n share_place first : ℕ) (v : UnlocksAnswer) (marks : List Bool) (remote local : Bool)
-    (j : TakesAs (take_unlocks n share_place w none (places w first)) v marks remote local) where
-  abbrev ended : Outcome Written
+module _ (h : ℕ) (w out : List ℕ) (n share_place first : ℕ) where
+  abbrev ended : Outcome (Result ℕ Refusal)
   ended = written h w out (take_unlocks n share_place w none (places w first))
 
   -- row 5 or 6, and nothing is written
-  pub settled_refused : (k p : ℕ) → v ≡ UnlocksCase.Refused k p → (WrittenCase.Refused k p ≡ ended.answer) × (out ≡ ended.bytes)
+  pub settled_refused : (r : Refusal) → TakesAs (take_unlocks n share_place w none (places w first)) (Err r) → (Err r ≡ ended.answer) × (out ≡ ended.bytes)
   unfolding written
-  settled_refused k p e = let f = takes_faulty v marks remote local (unlocks_come n share_place w none (places w first)) j k p e in (rw f, rw f)
+  settled_refused r j = let f = takes_faulty r (unlocks_come n share_place w none (places w first)) j in (rw f, rw f)
 
-  module _ (e : v ≡ UnlocksCase.Fine) where
+  module _ (v : TakenUnlocks) (j : TakesAs (take_unlocks n share_place w none (places w first)) (Ok v)) where
     -- the state by the marks is the state by the list; where every unlock is taken, it is written
-    settled_fine : ended ≡ outcome true (state_left h w n share_place (record { settled = marked marks; remote = remote; local = local })) out
+    settled_fine : ended ≡ outcome true (state_left h w n share_place (record { settled = marked v.settled; remote = v.remote; local = v.local })) out
     unfolding written state_left state_after
-    settled_fine = go (takes_all v marks remote local (unlocks_come n share_place w none (places w first)) j e)
+    settled_fine = go (takes_all v (unlocks_come n share_place w none (places w first)) j)
       where
-        go : All n share_place marks remote local (take_unlocks n share_place w none (places w first))
-            → ended ≡ outcome true (state_left h w n share_place (record { settled = marked marks; remote = remote; local = local })) out
-        go t = rw (t.is, keep_marked marks t.taken.settled t.says 0 (chunks (record_len h) n (drop 2 w)), t.remote_is, t.local_is)
+        go : All n share_place v.settled v.remote v.local (take_unlocks n share_place w none (places w first))
+            → ended ≡ outcome true (state_left h w n share_place (record { settled = marked v.settled; remote = v.remote; local = v.local })) out
+        go t = rw (t.is, keep_marked v.settled t.taken.settled t.says 0 (chunks (record_len h) n (drop 2 w)), t.remote_is, t.local_is)
 
-    module _ (size : ℕ) (l : length (state_left h w n share_place (record { settled = marked marks; remote = remote; local = local })) ≡ size) where
+    module _ (size : ℕ) (l : length (state_left h w n share_place (record { settled = marked v.settled; remote = v.remote; local = v.local })) ≡ size) where
       -- row 13, and nothing is written
-      pub settled_short : length out < size → (WrittenCase.Refused 13 size ≡ ended.answer) × (out ≡ ended.bytes)
+      pub settled_short : length out < size → (Err (OutputShort size) ≡ ended.answer) × (out ≡ ended.bytes)
       settled_short f = rw settled_fine (outcome_short true _ out refl size l f)
 
       -- all is written
-      pub settled_written : size ≤ length out → (out' : List ℕ) → out' ≡ sets out 0 (state_left h w n share_place (record { settled = marked marks; remote = remote; local = local }))
-          → (WrittenCase.Bytes size ≡ ended.answer) × (out' ≡ ended.bytes)
+      pub settled_written : size ≤ length out → (out' : List ℕ) → out' ≡ sets out 0 (state_left h w n share_place (record { settled = marked v.settled; remote = v.remote; local = v.local }))
+          → (Ok size ≡ ended.answer) × (out' ≡ ended.bytes)
       settled_written f out' d = rw settled_fine (outcome_whole true _ out refl size l f out' d)
 
 -- ---- the whole update
 
 module _ (h : ℕ) (w out : List ℕ) where
   -- a witness that is not read
-  pub updated_refused : (k p : ℕ) → read_witness h w ≡ ReadCase.Refused k p → (WrittenCase.Refused k p ≡ (updated h w out).answer) × (out ≡ (updated h w out).bytes)
+  pub updated_refused : (r : Refusal) → read_witness h w ≡ Err r → (Err r ≡ (updated h w out).answer) × (out ≡ (updated h w out).bytes)
   unfolding updated unlocked by_read written
-  updated_refused k p e = (rw e, rw e)
+  updated_refused r e = (rw e, rw e)
 
-  module _ (n k share_place first : ℕ) (e : read_witness h w ≡ ReadCase.Whole n k share_place first) where
+  module _ (l : WitnessLayout) (e : read_witness h w ≡ Ok l) where
     -- a witness that is read whole
-    updated_read : updated h w out ≡ written h w out (take_unlocks n share_place w none (places w first))
+    updated_read : updated h w out ≡ written h w out (take_unlocks l.n l.share_place w none (places w l.first_unlock))
     unfolding updated unlocked by_read
     updated_read = rw e
 
-    pub updated_whole : updated h w out ≡ written h w out (take_unlocks n (behind_tlcs h n) w none (places w first))
-    updated_whole = rw (updated_read, ← (read_fine h w n k share_place first e).tlcs)
+    pub updated_whole : updated h w out ≡ written h w out (take_unlocks l.n (behind_tlcs h l.n) w none (places w l.first_unlock))
+    updated_whole = rw (updated_read, ← (read_fine h w l e).tlcs)
 
     -- and its unlocks: turned down, or the state left is written
-    pub updated_turned : (r p : ℕ) → take_unlocks n share_place w none (places w first) ≡ faulty r p → (WrittenCase.Refused r p ≡ (updated h w out).answer) × (out ≡ (updated h w out).bytes)
+    pub updated_turned : (r : Refusal) → take_unlocks l.n l.share_place w none (places w l.first_unlock) ≡ faulty r → (Err r ≡ (updated h w out).answer) × (out ≡ (updated h w out).bytes)
     unfolding written
-    updated_turned r p f = rw (updated_read, f) (refl, refl)
+    updated_turned r f = rw (updated_read, f) (refl, refl)
 
-    pub updated_fine : (t : Taken) → take_unlocks n share_place w none (places w first) ≡ fine n share_place t → updated h w out ≡ outcome true (state_left h w n share_place t) out
+    pub updated_fine : (t : Taken) → take_unlocks l.n l.share_place w none (places w l.first_unlock) ≡ fine l.n l.share_place t → updated h w out ≡ outcome true (state_left h w l.n l.share_place t) out
     unfolding written
     updated_fine t f = rw (updated_read, f)
 
@@ -457,7 +431,7 @@ module _ (h : ℕ) (w out : List ℕ) where
 -- of unlocks that are turned down nothing is said
 abbrev pub Takes : ℕ → List ℕ → Unlocked → Type 0
 Takes h w (fine n share_place t) = share_place + 72 ≤ length w
-Takes h w (faulty number place) = Unit {0}
+Takes h w (faulty r) = Unit {0}
 
 -- where all are taken, the witness has both shares
 pub unlocked_shares : (h : ℕ) (w : List ℕ) → Takes h w (unlocked h w)
@@ -466,8 +440,8 @@ unlocked_shares h w = go (read_witness h w) (WitnessCase.fine h w)
   where
     took : {n share_place : ℕ} → share_place + 72 ≤ length w → {x : Unlocked} → Comes n share_place x → Takes h w x
     took g (comes_fine t) = g
-    took g (comes_faulty number place z) = tt
+    took g (comes_faulty r) = tt
 
-    go : (r : WitnessRead) → FineRead h w r → Takes h w (by_read w r)
-    go (ReadCase.Whole n k share_place start) f = took f.shares (unlocks_come n share_place w none (places w start))
-    go (ReadCase.Refused number place) f = tt
+    go : (r : Result WitnessLayout Refusal) → FineRead h w r → Takes h w (by_read w r)
+    go (Ok l) f = took f.shares (unlocks_come l.n l.share_place w none (places w l.first_unlock))
+    go (Err q) f = tt

@@ -14,13 +14,15 @@ use borrow.Author.Tests.{lt-ltb, le-ltb, le-leb, lt-leb, leb-true}
 use Rattle.fiber_bytes.proofs.BytesLaws.{either, part_length}
 use Rattle.fiber_bytes.proofs.CaseLaws.{by_test, by_test₂}
 use Rattle.fiber_types.specs.declared.unlock.Unlock.{Unlock}
-use Rattle.fiber_types.specs.declared.unlock.UnlockRead.TheVariants as UnlockCase
-use Rattle.fiber_types.specs.Records.{valid_hash_len, witness_len, read_unlock}
+use Rattle.std.specs.Prelude.{Result, Ok, Err}
+use Rattle.fiber_refusal.specs.declared.Refusal.{Refusal}
+use Rattle.fiber_refusal.specs.declared.Refusal.TheVariants.{WitnessShort, TlcCut, SharesCut, UnlockCut, NotWell}
+use Rattle.fiber_types.specs.HashLen.{valid_hash_len}
+use Rattle.fiber_types.specs.Records.{witness_len, read_unlock}
 use Rattle.fiber_types.proofs.RecordsLaws.{hash_len_small, at_least}
 use Rattle.fiber_types.proofs.RoundTrips.{unlock_read, unlock_refused}
-use Rattle.fiber_witness.specs.declared.witness.WitnessRead.{WitnessRead}
-use Rattle.fiber_witness.specs.declared.witness.WitnessRead.TheVariants.{Whole, Refused}
-use Rattle.fiber_witness.specs.Witness.{record_len, unlock_len, chunks, state_bytes, member, places_within, places, unless_cut, read_unlocks, read_shares, read_tlcs, read_witness}
+use Rattle.fiber_witness.specs.declared.witness.WitnessLayout.{WitnessLayout}
+use Rattle.fiber_witness.specs.Witness.{record_len, unlock_len, chunks, state_bytes, member, places_within, places, unless_cut, read_unlocks, read_shares, read_tlcs, read_witness, whole, cut_at}
 use Rattle.fiber_witness.specs.inner.Strided.{behind_tlcs}
 
 -- ---- the places of the unlocks
@@ -96,7 +98,7 @@ by_cut P w (p ∷ ps) c c' x x' f g =
     by_test₂ P (leb (p + unlock_len w p) (length w)) _ _ _ _ (λ _. r) (λ _. f p)
 
 -- an unlock that is read has the length that the reader says, and ends within the witness
-pub unlock_whole : (w : List ℕ) (at : ℕ) (u : Unlock) (len : ℕ) → read_unlock w at ≡ UnlockCase.Whole u → len ≡ witness_len u.flag
+pub unlock_whole : (w : List ℕ) (at : ℕ) (u : Unlock) (len : ℕ) → read_unlock w at ≡ Ok u → len ≡ witness_len u.flag
     → (len ≡ unlock_len w at) × (at + unlock_len w at ≤ length w)
 unlock_whole w at u len e g =
     let r = unlock_read w at u e in
@@ -107,7 +109,7 @@ unlock_whole w at u len e g =
 pub record Reading (w : List ℕ) (n share_place at k : ℕ) : Type 0 where
   pub few : k ≤ at
   pub room : at ≤ length w
-  pub rest : unless_cut w (places w at) (Refused 4) (Whole n (k + length (places w at)) share_place (share_place + 72)) ≡ read_unlocks w n share_place
+  pub rest : unless_cut w (places w at) cut_at (whole n (k + length (places w at)) share_place (share_place + 72)) ≡ read_unlocks w n share_place
 
 -- before the first, all of them are left
 pub reading_start : (w : List ℕ) (n share_place : ℕ) → share_place + 72 ≤ length w → Reading w n share_place (share_place + 72) 0
@@ -116,11 +118,11 @@ reading_start w n share_place h = record { few = omega arith; room = h; rest = r
 
 module _ (w : List ℕ) (n share_place at k : ℕ) (c : Reading w n share_place at k) where
   -- at the end none is left
-  pub reading_end : length w ≤ at → Whole n k share_place (share_place + 72) ≡ read_unlocks w n share_place
+  pub reading_end : length w ≤ at → whole n k share_place (share_place + 72) ≡ read_unlocks w n share_place
   reading_end h = rw (places_nil w at h, cut_none, add-zero) at c.rest
 
   module _ (h : at < length w) where
-    module _ (u : Unlock) (len : ℕ) (e : read_unlock w at ≡ UnlockCase.Whole u) (g : len ≡ witness_len u.flag) where
+    module _ (u : Unlock) (len : ℕ) (e : read_unlock w at ≡ Ok u) (g : len ≡ witness_len u.flag) where
       -- what is left of the witness falls
       pub reading_less : length w - (at + len) < length w - at
       reading_less = omega (arith, at_least u.flag)
@@ -133,20 +135,20 @@ module _ (w : List ℕ) (n share_place at k : ℕ) (c : Reading w n share_place 
           record {
             few = omega (arith, c.few, r.0, unlock_long w at);
             room = omega (arith, r.0, r.1);
-            rest = rw r.0 (rw (places_cons w at h, cut_passed w (Refused 4) _ at (places w (at + unlock_len w at)) r.1, m) at c.rest);
+            rest = rw r.0 (rw (places_cons w at h, cut_passed w cut_at _ at (places w (at + unlock_len w at)) r.1, m) at c.rest);
           }
 
     -- one that is not is what the whole finds
-    pub reading_cut : (number place : ℕ) → read_unlock w at ≡ UnlockCase.Refused number place → Refused number place ≡ read_unlocks w n share_place
-    reading_cut number place e =
-        let r = unlock_refused w at number place e in
-        rw (r.1.0, r.1.1) (rw (places_cons w at h, cut_short w (Refused 4) _ at (places w (at + unlock_len w at)) r.0) at c.rest)
+    pub reading_cut : (r : Refusal) → read_unlock w at ≡ Err r → Err r ≡ read_unlocks w n share_place
+    reading_cut q e =
+        let r = unlock_refused w at q e in
+        rw r.1 (rw (places_cons w at h, cut_short w cut_at _ at (places w (at + unlock_len w at)) r.0) at c.rest)
 
 -- ---- reading the TLCs and the shares
 
 module _ (h : ℕ) (w : List ℕ) (n : ℕ) where
   -- only q of m records are whole
-  pub tlcs_cut : (m at q : ℕ) → q < m → at + q * record_len h ≤ length w → length w < at + q * record_len h + record_len h → Refused 2 (at + q * record_len h) ≡ read_tlcs m h w n at
+  pub tlcs_cut : (m at q : ℕ) → q < m → at + q * record_len h ≤ length w → length w < at + q * record_len h + record_len h → Err (TlcCut (at + q * record_len h)) ≡ read_tlcs m h w n at
   unfolding read_tlcs
   tlcs_cut zero at q f g l = absurd (omega arith)
   tlcs_cut (suc m) at zero f g l =
@@ -181,14 +183,14 @@ module _ (h : ℕ) (w : List ℕ) (n : ℕ) where
     whole_few f = ⊎_elim (λ g. absurd (omega (arith, whole_room, mul-le-mul_right (record_len h) g))) (λ g. g) (either n q)
 
     -- and the one behind them is cut short
-    pub whole_cut : length w < behind_tlcs h n → Refused 2 (2 + q * record_len h) ≡ read_tlcs n h w n 2
+    pub whole_cut : length w < behind_tlcs h n → Err (TlcCut (2 + q * record_len h)) ≡ read_tlcs n h w n 2
     whole_cut f =
         let p : 0 < record_len h = omega arith in
         tlcs_cut n 2 q (whole_few f) whole_room (omega (arith, ap (λ (k : ℕ). k * record_len h) e, lt-div-mul-add {a = length w - 2} p))
 
   module _ (f : behind_tlcs h n ≤ length w) where
     -- the share part is cut short
-    pub shares_cut : length w < behind_tlcs h n + 72 → Refused 3 (behind_tlcs h n) ≡ read_tlcs n h w n 2
+    pub shares_cut : length w < behind_tlcs h n + 72 → Err (SharesCut (behind_tlcs h n)) ≡ read_tlcs n h w n 2
     unfolding read_shares
     shares_cut g = rw (tlcs_whole n 2 f, lt-leb (behind_tlcs h n + 72) (length w) g)
 
@@ -201,13 +203,13 @@ module _ (h : ℕ) (w : List ℕ) (n : ℕ) where
 
 module _ (h : ℕ) (w : List ℕ) where
   -- row 14
-  pub witness_unknown : valid_hash_len h ≡ false → Refused 14 0 ≡ read_witness h w
+  pub witness_unknown : valid_hash_len h ≡ false → Err NotWell ≡ read_witness h w
   unfolding read_witness
   witness_unknown k = rw k
 
   module _ (k : valid_hash_len h ≡ true) where
     -- row 1
-    pub witness_short : length w < 2 → Refused 1 (length w) ≡ read_witness h w
+    pub witness_short : length w < 2 → Err (WitnessShort (length w)) ≡ read_witness h w
     unfolding read_witness
     witness_short f = rw (k, lt-leb 2 (length w) f)
 
@@ -228,16 +230,16 @@ pub record Fine (h : ℕ) (w : List ℕ) (n share_place first : ℕ) : Type 0 wh
   pub unlocks : first ≡ share_place + 72
 
 -- of a reading that turned the witness down, nothing is said
-abbrev pub FineRead : ℕ → List ℕ → WitnessRead → Type 0
-FineRead h w (Whole n k share_place first) = Fine h w n share_place first
-FineRead h w (Refused number place) = Unit {0}
+abbrev pub FineRead : ℕ → List ℕ → Result WitnessLayout Refusal → Type 0
+FineRead h w (Ok l) = Fine h w l.n l.share_place l.first_unlock
+FineRead h w (Err r) = Unit {0}
 
 module _ (h : ℕ) (w : List ℕ) (n : ℕ) (s : valid_hash_len h ≡ true) (c : n ≡ get_or w 1 0) where
   fine_shares : (share_place : ℕ) → share_place ≡ behind_tlcs h n → FineRead h w (read_shares w n share_place)
   unfolding read_shares read_unlocks
   fine_shares share_place e =
       by_test (FineRead h w) (leb (share_place + 72) (length w)) _ _
-      (λ t. by_cut (λ r _. FineRead h w r) w (places w (share_place + 72)) (Refused 4) (λ p. p) _ 0
+      (λ t. by_cut (λ r _. FineRead h w r) w (places w (share_place + 72)) cut_at (λ p. p) _ 0
       (λ p. tt)
       (record { hash = s; small = hash_len_small h s; count = c; tlcs = e; shares = leb-true _ _ t; unlocks = refl }))
       (λ _. tt)
@@ -259,8 +261,8 @@ fine h w =
     (λ _. tt)
 
 -- the same, of a reading that is known to be whole
-pub read_fine : (h : ℕ) (w : List ℕ) (n k share_place first : ℕ) → read_witness h w ≡ Whole n k share_place first → Fine h w n share_place first
-read_fine h w n k share_place first e = subst (FineRead h w) e (fine h w)
+pub read_fine : (h : ℕ) (w : List ℕ) (l : WitnessLayout) → read_witness h w ≡ Ok l → Fine h w l.n l.share_place l.first_unlock
+read_fine h w l e = subst (FineRead h w) e (fine h w)
 
 -- ---- records
 
@@ -277,6 +279,14 @@ records_more size m l = refl
 pub data Even (k : ℕ) : List (List ℕ) → Type 0 where
   even_none : Even k []
   even_more : {r : List ℕ} {rs : List (List ℕ)} → length r ≡ k → Even k rs → Even k (r ∷ rs)
+
+-- the first of records of k bytes, and those behind it
+module _ {k : ℕ} {r : List ℕ} {rs : List (List ℕ)} where
+  pub even_here : Even k (r ∷ rs) → length r ≡ k
+  even_here (even_more e t) = e
+
+  pub even_next : Even k (r ∷ rs) → Even k rs
+  even_next (even_more e t) = t
 
 -- one of records of k bytes
 pub even_at : {k : ℕ} {rs : List (List ℕ)} → Even k rs → (i : ℕ) → i < length rs → length (get_or rs i []) ≡ k

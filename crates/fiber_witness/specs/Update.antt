@@ -1,11 +1,10 @@
 -- What an update answers and writes; docs/SCOPE.md, "Update", with rows 5, 6 and 13 of its table.
-use Rattle.std.specs.Prelude.{ℕ, ◌+◌, Bool, true, false, cond, List, [], ◌∷◌, get_or, drop, replicate, ltb, eqb}
+use Rattle.std.specs.Prelude.{ℕ, ◌+◌, Bool, true, false, cond, List, [], ◌∷◌, get_or, drop, replicate, ltb, eqb, Result, Ok, Err}
 use Rattle.fiber_bytes.specs.Bytes.{part}
-use Rattle.fiber_types.specs.declared.answer.Written.{Written}
-use Rattle.fiber_types.specs.declared.answer.Written.TheVariants as WrittenCase
+use Rattle.fiber_refusal.specs.declared.Refusal.{Refusal}
+use Rattle.fiber_refusal.specs.declared.Refusal.TheVariants.{UnlockUnknown, SettledTwice}
 use Rattle.fiber_types.specs.Records.{Outcome, unwritten, outcome}
-use Rattle.fiber_witness.specs.declared.witness.WitnessRead.{WitnessRead}
-use Rattle.fiber_witness.specs.declared.witness.WitnessRead.TheVariants as ReadCase
+use Rattle.fiber_witness.specs.declared.witness.WitnessLayout.{WitnessLayout}
 use Rattle.fiber_witness.specs.Witness.{record_len, chunks, state_bytes, member, places, read_witness}
 
 -- ---- the unlocks, in order
@@ -22,7 +21,7 @@ none = record { settled = []; remote = false; local = false }
 -- what the unlocks of a witness take, of n TLCs and shares at a place, or the row that turns it down
 pub data Unlocked : Type 0 where
   fine : ℕ → ℕ → Taken → Unlocked
-  faulty : ℕ → ℕ → Unlocked
+  faulty : Refusal → Unlocked
 
 -- Unlocks at the places of w, of n TLCs. 0xFF is the local share and 0xFE the remote one, repeats allowed. Another byte is the place of a
 -- TLC in the list before any removal: 5 where there is none, 6 where it is settled already.
@@ -35,7 +34,7 @@ take_unlocks n share_place w t (p ∷ ps) =
     let on_tlc = take_unlocks n share_place w (record { settled = byte ∷ t.settled; remote = t.remote; local = t.local }) ps in
     cond (eqb byte 255) on_local
     (cond (eqb byte 254) on_remote
-    (cond (ltb byte n) (cond (member byte t.settled) (faulty 6 p) on_tlc) (faulty 5 p)))
+    (cond (ltb byte n) (cond (member byte t.settled) (faulty (SettledTwice p)) on_tlc) (faulty (UnlockUnknown p))))
 
 -- ---- the state left
 
@@ -63,18 +62,18 @@ state_left h w n share_place t = state_after (chunks (record_len h) n (drop 2 w)
 
 -- ---- the update
 
-unfoldable pub by_read : List ℕ → WitnessRead → Unlocked
-by_read w (ReadCase.Whole n unlock_count share_place first_unlock) = take_unlocks n share_place w none (places w first_unlock)
-by_read w (ReadCase.Refused number place) = faulty number place
+unfoldable pub by_read : List ℕ → Result WitnessLayout Refusal → Unlocked
+by_read w (Ok l) = take_unlocks l.n l.share_place w none (places w l.first_unlock)
+by_read w (Err r) = faulty r
 
 -- read, then take the unlocks in order
 unfoldable pub unlocked : ℕ → List ℕ → Unlocked
 unlocked h w = by_read w (read_witness h w)
 
 -- the state left goes to the front of the output: 13 at its length where it has no room
-unfoldable pub written : ℕ → List ℕ → List ℕ → Unlocked → Outcome Written
+unfoldable pub written : ℕ → List ℕ → List ℕ → Unlocked → Outcome (Result ℕ Refusal)
 written h w out (fine n share_place t) = outcome true (state_left h w n share_place t) out
-written h w out (faulty number place) = unwritten (WrittenCase.Refused number place) out
+written h w out (faulty r) = unwritten (Err r) out
 
-unfoldable pub updated : ℕ → List ℕ → List ℕ → Outcome Written
+unfoldable pub updated : ℕ → List ℕ → List ℕ → Outcome (Result ℕ Refusal)
 updated h w out = written h w out (unlocked h w)

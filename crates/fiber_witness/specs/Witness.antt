@@ -1,10 +1,12 @@
 -- What reading a settlement witness finds; docs/SCOPE.md, "Witness", with rows 14 and 1 to 4 of its table.
 -- Unlock count 1 (never looked at), TLC count n 1, n TLCs, remote share, local share, unlocks to the end.
-use Rattle.std.specs.Prelude.{ℕ, zero, suc, ◌+◌, Bool, false, cond, ◌||◌, length, get_or, take, drop, ltb, leb, eqb}
+use Rattle.std.specs.Prelude.{ℕ, zero, suc, ◌+◌, Bool, false, cond, ◌||◌, length, get_or, take, drop, ltb, leb, eqb, Result, Ok, Err}
 use mathlib.Core.List.{List, [], ◌∷◌, ◌++◌, flatten}
-use Rattle.fiber_types.specs.Records.{valid_hash_len, witness_len}
-use Rattle.fiber_witness.specs.declared.witness.WitnessRead.{WitnessRead}
-use Rattle.fiber_witness.specs.declared.witness.WitnessRead.TheVariants.{Whole, Refused}
+use Rattle.fiber_refusal.specs.declared.Refusal.{Refusal}
+use Rattle.fiber_refusal.specs.declared.Refusal.TheVariants.{WitnessShort, TlcCut, SharesCut, UnlockCut, NotWell}
+use Rattle.fiber_types.specs.HashLen.{valid_hash_len}
+use Rattle.fiber_types.specs.Records.{witness_len}
+use Rattle.fiber_witness.specs.declared.witness.WitnessLayout.{WitnessLayout}
 
 -- ---- layout
 
@@ -51,26 +53,34 @@ unless_cut w (p ∷ ps) cut whole =
 
 -- ---- reading, front to back
 
--- the unlocks behind the shares: 4 at the first byte of one that is cut short
-unfoldable pub read_unlocks : List ℕ → ℕ → ℕ → WitnessRead
+-- what a witness that is whole has: so many TLCs and unlocks, and the places of the share part and of the first unlock
+abbrev pub whole : ℕ → ℕ → ℕ → ℕ → Result WitnessLayout Refusal
+whole n unlock_count share_place first_unlock = Ok (record { n = n; unlock_count = unlock_count; share_place = share_place; first_unlock = first_unlock })
+
+-- an unlock that is cut short: 4 at its first byte
+abbrev pub cut_at : ℕ → Result WitnessLayout Refusal
+cut_at at = Err (UnlockCut at)
+
+-- the unlocks behind the shares
+unfoldable pub read_unlocks : List ℕ → ℕ → ℕ → Result WitnessLayout Refusal
 read_unlocks w n share_place =
     let ps = places w (share_place + 72) in
-    unless_cut w ps (Refused 4) (Whole n (length ps) share_place (share_place + 72))
+    unless_cut w ps cut_at (whole n (length ps) share_place (share_place + 72))
 
 -- the share part: 3 at its first byte where it is cut short
-unfoldable pub read_shares : List ℕ → ℕ → ℕ → WitnessRead
-read_shares w n share_place = cond (leb (share_place + 72) (length w)) (read_unlocks w n share_place) (Refused 3 share_place)
+unfoldable pub read_shares : List ℕ → ℕ → ℕ → Result WitnessLayout Refusal
+read_shares w n share_place = cond (leb (share_place + 72) (length w)) (read_unlocks w n share_place) (Err (SharesCut share_place))
 
 -- the last m of n TLCs, from a place on: 2 at the first byte of one that is cut short
-unfoldable pub read_tlcs : ℕ → ℕ → List ℕ → ℕ → ℕ → WitnessRead
+unfoldable pub read_tlcs : ℕ → ℕ → List ℕ → ℕ → ℕ → Result WitnessLayout Refusal
 read_tlcs zero h w n at = read_shares w n at
 read_tlcs (suc m) h w n at =
     let next = read_tlcs m h w n (at + record_len h) in
-    cond (leb (at + record_len h) (length w)) next (Refused 2 at)
+    cond (leb (at + record_len h) (length w)) next (Err (TlcCut at))
 
 -- 14, then a witness below 2 bytes: 1 at its length
-unfoldable pub read_witness : ℕ → List ℕ → WitnessRead
+unfoldable pub read_witness : ℕ → List ℕ → Result WitnessLayout Refusal
 read_witness h w =
     cond (valid_hash_len h)
-    (cond (leb 2 (length w)) (read_tlcs (get_or w 1 0) h w (get_or w 1 0) 2) (Refused 1 (length w)))
-    (Refused 14 0)
+    (cond (leb 2 (length w)) (read_tlcs (get_or w 1 0) h w (get_or w 1 0) 2) (Err (WitnessShort (length w))))
+    (Err NotWell)

@@ -2,6 +2,9 @@
 // the crates of the upper face: its functions may have a `requires` that their callers meet. Uses the lower face and fiber_bytes.
 #![tactic(auto)]
 
+pub mod marks;
+pub mod records;
+pub mod shares;
 pub mod state;
 pub mod unlocks;
 pub mod witness;

@@ -3,255 +3,139 @@
 // A program; uses the two forms, the upper face, what is below it, test_lines, and std for the file.
 #![tactic(auto)]
 
-ghost use Rattle.std.specs.Prelude.{◌≡◌, ◌≤◌, length, take};
-ghost use Rattle.fiber_choice.specs.Entries.{entries, pair_len};
-ghost use Rattle.fiber_choice.specs.Preimages.{find_pair};
-ghost use Rattle.preimage_list.specs.PreimageList.{flat_pairs};
-
-use fiber_bytes::{part_of, put};
-use fiber_choice::kinds::Found;
 use fiber_step::preimage;
 use fiber_types::layout::{PAIR, TRACKED_FIXED};
 use fiber_types::tlc::valid_hash_len;
 use preimage_list::Preimage;
-use std::fs::File;
-use std::io;
-use std::num::{wrapping_add_u64, wrapping_add_usize};
-use test_lines::{find, number, read_full, unhex};
+use std::alloc::{AllocError, Global};
+use std::str::FromStr;
+use std::{fs, io};
+use test_lines::{Field, Tally, is_case, unreadable};
 use watchtower::witness;
-use watchtower::witness::WitnessRead;
 
-#[derive(Clone, Copy)]
-struct Count {
-    agree: u64,
-    differ: u64,
+#[derive(Clone, Copy, Debug, PartialEq, Eq)]
+enum Kind {
+    Read,
+    Update,
+    Pick,
 }
 
-#[derive(Clone, Copy)]
-struct Counts {
-    readers: Count,
-    searches: Count,
-}
+// A word that is no kind's.
+#[derive(Clone, Copy, Debug)]
+struct UnknownKind;
 
-fn counted(c: Count, agree: bool) -> Count {
-    if agree {
-        return Count {
-            agree: wrapping_add_u64(c.agree, 1),
-            differ: c.differ,
-        };
-    }
-    Count {
-        agree: c.agree,
-        differ: wrapping_add_u64(c.differ, 1),
-    }
-}
+impl FromStr for Kind {
+    type Err = UnknownKind;
 
-// The k-th field of a line, whose kind is the 0th; none where there are fewer.
-fn field(line: &[u8], k: usize) -> &[u8] {
-    let mut at = 0;
-    let mut left = k;
-    while at < line.len() {
-        let end = find(line, at, b' ');
-        if left == 0 {
-            return part_of(line, at, end - at);
-        }
-        left -= 1;
-        at = end + 1;
-    }
-    part_of(line, 0, 0)
-}
-
-// Room for the bytes of a field.
-fn bytes_buffer() -> [u8; 1024]
-    ensures { 1024 ≡ length result }
-{
-    [0; 1024]
-}
-
-// The answers as numbers.
-fn read_numbers(r: WitnessRead) -> [usize; 5] {
-    match r {
-        WitnessRead::Whole {
-            n,
-            unlock_count,
-            share_place,
-            first_unlock,
-        } => [0, n, unlock_count, share_place, first_unlock],
-        WitnessRead::Refused { number, place } => [1, number, place, 0, 0],
-    }
-}
-
-fn found_numbers(f: Found) -> [usize; 5] {
-    match f {
-        Found::At(i) => [0, i, 0, 0, 0],
-        Found::None => [1, 0, 0, 0, 0],
-    }
-}
-
-fn equal(a: [usize; 5], b: [usize; 5]) -> bool {
-    for i in 0..5 {
-        if a[i] != b[i] {
-            return false;
+    fn from_str(name: &str) -> Result<Self, UnknownKind> {
+        match name {
+            "read" => Ok(Kind::Read),
+            "update" => Ok(Kind::Update),
+            "pick" => Ok(Kind::Pick),
+            _ => Err(UnknownKind),
         }
     }
-    true
 }
 
 // Whether the two readers say the same of a witness.
-fn readers_agree(h: usize, w: &[u8]) -> bool {
-    let struct_read = witness_reader::read(h, w);
-    let cursor_read = witness::read(h, w);
-    equal(read_numbers(struct_read), read_numbers(cursor_read))
+fn readers_agree(hash_len: usize, witness: &[u8]) -> bool {
+    witness_reader::read(hash_len, witness) == witness::read(hash_len, witness)
 }
 
-// 32 bytes from a place on.
-fn bytes32(s: &[u8], at: usize) -> [u8; 32] {
-    let mut b = [0; 32];
-    put(&mut b, 0, part_of(s, at, 32));
-    b
+// The pair that 64 bytes are.
+fn pair_of(bytes: &[u8]) -> Option<Preimage> {
+    let hash = *bytes.first_chunk::<32>()?;
+    let preimage = *bytes.last_chunk::<32>()?;
+    Some(Preimage { hash, preimage })
 }
 
-// The pair at a place of a flat slice.
-fn pair_at(s: &[u8], at: usize) -> Preimage {
-    Preimage {
-        hash: bytes32(s, at),
-        preimage: bytes32(s, wrapping_add_usize(at, 32)),
-    }
-}
-
-// The first 16 pairs of a flat slice.
-fn pairs_of(s: &[u8]) -> [Preimage; 16] {
-    let none = Preimage {
-        hash: [0; 32],
-        preimage: [0; 32],
-    };
-    let mut list = [none; 16];
-    for i in 0..16 {
-        list[i] = pair_at(s, PAIR * i);
-    }
-    list
-}
-
-// The search among the first n of 16 records.
-fn found_in_list(list: [Preimage; 16], n: usize, hash: [u8; 32]) -> Found
-    requires { n ≤ 16 }
-    ensures { result ≡ find_pair (entries pair_len (flat_pairs (take n list))) hash }
-{
-    preimage_list::find_pair(&list[..n], hash)
+// The pairs of a flat slice.
+fn pairs_of(alloc: Global, flat: &[u8]) -> Result<Vec<Preimage>, AllocError> {
+    flat.chunks_exact(PAIR).filter_map(pair_of).collect(alloc)
 }
 
 // Whether the two searches find the same.
-fn searches_agree(preimages: &[u8], hash: &[u8]) -> bool {
-    let n = preimages.len() / PAIR;
-    if 16 < n {
-        return false;
-    }
-    let in_list = found_in_list(pairs_of(preimages), n, bytes32(hash, 0));
-    let in_slice = preimage::find_pair(preimages, hash);
-    equal(found_numbers(in_list), found_numbers(in_slice))
+fn searches_agree(pairs: &[Preimage], flat: &[u8], hash: [u8; 32]) -> bool {
+    preimage_list::find_pair(pairs, hash) == preimage::find_pair(flat, &hash)
 }
 
-// Counts the search for each tracked TLC's hash.
-fn searched(c: Count, h: usize, tracked: &[u8], preimages: &[u8]) -> Count {
-    let mut count = c;
-    if !valid_hash_len(h) {
-        return count;
-    }
-    let mut at = 0;
-    while at < tracked.len() {
-        count = counted(count, searches_agree(preimages, part_of(tracked, at, 32)));
-        at += TRACKED_FIXED + h;
-    }
-    count
+#[derive(Clone, Copy, Debug, Default)]
+struct Tallies {
+    readers: Tally,
+    searches: Tally,
 }
 
-// Counts a line that has a witness in its k-th field.
-fn with_witness(c: Counts, line: &[u8], k: usize) -> Counts {
-    let mut buffer = bytes_buffer();
-    let text = field(line, k);
-    let n = unhex(part_of(text, 1, text.len()), &mut buffer);
-    let agree = readers_agree(number(field(line, 2)) as usize, part_of(&buffer, 0, n));
-    let readers = c.readers;
-    let searches = c.searches;
-    Counts {
-        readers: counted(readers, agree),
-        searches,
+impl Tallies {
+    fn count_readers(&mut self, hash_len: usize, witness: &[u8]) {
+        self.readers.count(readers_agree(hash_len, witness));
     }
-}
 
-// Counts a line that has tracked TLCs and stored preimages.
-fn with_pairs(c: Counts, line: &[u8]) -> Counts {
-    let mut tracked = bytes_buffer();
-    let mut pairs = bytes_buffer();
-    let text = field(line, 20);
-    let n = unhex(part_of(text, 1, text.len()), &mut tracked);
-    let text = field(line, 21);
-    let m = unhex(part_of(text, 1, text.len()), &mut pairs);
-    let readers = c.readers;
-    let searches = c.searches;
-    Counts {
-        readers,
-        searches: searched(
-            searches,
-            number(field(line, 2)) as usize,
-            part_of(&tracked, 0, n),
-            part_of(&pairs, 0, m),
-        ),
+    // Counts the search for each tracked TLC's hash, the last one's too where that TLC is cut short.
+    fn count_searches(
+        &mut self,
+        alloc: Global,
+        hash_len: usize,
+        tracked: &[u8],
+        flat: &[u8],
+    ) -> Result<(), AllocError> {
+        if valid_hash_len(hash_len) {
+            let pairs = pairs_of(alloc, flat)?;
+            for tlc in tracked.chunks(TRACKED_FIXED.saturating_add(hash_len)) {
+                if let Some(hash) = tlc.first_chunk::<32>() {
+                    self.searches.count(searches_agree(&pairs, flat, *hash));
+                }
+            }
+        }
+        Ok(())
     }
-}
 
-// Counts a line by its kind's first letter.
-fn with_line(c: Counts, line: &[u8]) -> Counts {
-    if line.len() == 0 {
-        return c;
-    }
-    match line[0] {
-        b'r' | b'u' => with_witness(c, line, 3),
-        b'p' => with_pairs(with_witness(c, line, 22), line),
-        _ => c,
+    // Counts a line: its witness, and its tracked TLCs where it has them.
+    fn count_line(&mut self, alloc: Global, line: &str) -> io::Result<()> {
+        let (kind, fields) = line.split_once(' ').ok_or_else(|| unreadable(line))?;
+        let kind = kind.parse::<Kind>().map_err(|_| unreadable(line))?;
+        let fields: Vec<Field> = fields
+            .split(' ')
+            .map(|field| Field::parse(alloc, field))
+            .try_collect(alloc)?;
+        match (kind, fields.as_slice()) {
+            (Kind::Read | Kind::Update, [_, Field::Number(hash_len), Field::Bytes(witness)]) => {
+                self.count_readers(*hash_len as usize, witness);
+                Ok(())
+            }
+            (
+                Kind::Pick,
+                [
+                    _,
+                    Field::Number(hash_len),
+                    ..,
+                    Field::Bytes(tracked),
+                    Field::Bytes(pairs),
+                    Field::Bytes(witness),
+                ],
+            ) => {
+                self.count_readers(*hash_len as usize, witness);
+                self.count_searches(alloc, *hash_len as usize, tracked, pairs)?;
+                Ok(())
+            }
+            _ => Err(unreadable(line)),
+        }
     }
 }
 
-fn all(s: &[u8]) -> Counts {
-    let mut c = Counts {
-        readers: Count {
-            agree: 0,
-            differ: 0,
-        },
-        searches: Count {
-            agree: 0,
-            differ: 0,
-        },
-    };
-    let mut at = 0;
-    while at < s.len() {
-        let end = find(s, at, b'\n');
-        c = with_line(c, part_of(s, at, end - at));
-        at = end + 1;
-    }
-    c
-}
-
-fn print(rt: &impl Print, name: &str, c: Count) -> io::Result<()> {
-    let agree = c.agree;
-    let differ = c.differ;
-    println!(rt; "{name} {agree} agree {differ} differ")
-}
-
-// Longer than the list.
-fn text_buffer() -> [u8; 500_000]
-    ensures { 500000 ≡ length result }
-{
-    [0; 500_000]
+fn print(rt: &impl Print, name: &str, tally: Tally) -> io::Result<()> {
+    println!(rt;
+        "{name} {} agree {} differ",
+        tally.agree,
+        tally.run - tally.agree
+    )
 }
 
 fn main(rt: HostRuntime) -> io::Result<()> {
-    let mut file = File::open(&rt, "inputs.txt")?;
-    let mut text = text_buffer();
-    let n = read_full(&mut file, &mut text)?;
-    let c = all(&text[..n]);
-    let readers = c.readers;
-    let searches = c.searches;
-    print(&rt, "readers", readers)?;
-    print(&rt, "pairs", searches)
+    let list = fs::read_to_string(&rt, "inputs.txt")?;
+    let mut tallies = Tallies::default();
+    for line in list.as_str().lines().filter(|line| is_case(line)) {
+        tallies.count_line(rt.alloc(), line)?;
+    }
+    print(&rt, "readers", tallies.readers)?;
+    print(&rt, "pairs", tallies.searches)
 }

@@ -1,3 +1,2 @@
 -- Laws of the definitions, which proofs cite.
 pub mod PreimageListLaws
-mod Search

@@ -5,28 +5,26 @@ use native.Mathlib.Omega.{arith}
 use mathlib.Core.Path.{◌≡◌, refl, sym, ap, subst, ◌∙◌}
 use mathlib.Core.Bool.{Bool, true, false, cond}
 use mathlib.Core.List.{List, [], ◌∷◌, ◌++◌, map, flat_map}
+use Rattle.std.specs.Prelude.{Option, Some, None}
+use Rattle.std.specs.List.{position_from}
 use lib.ListN.{length, get_or, take, length-append}
 use lib.Seq.{take_at, drop_at, take_all}
 use Rattle.fiber_choice.specs.Entries.{same, entries, find_first, tracked_hash, tracked_algorithm, pair_len, pair_hash, pair_preimage}
 use Rattle.fiber_choice.specs.Preimages.{digest, find_pair, counts_at}
-use Rattle.fiber_choice.specs.declared.kinds.Found.{Found}
-use Rattle.fiber_choice.specs.declared.kinds.Found.TheVariants.{At, None}
 use Rattle.preimage_list.specs.declared.pair.Preimage.{Preimage}
 use Rattle.preimage_list.specs.PreimageList.{flat_pairs}
-use Rattle.fiber_choice.proofs.EntriesLaws.{entries_none, entries_append, find_none, find_more}
+use Rattle.fiber_choice.proofs.EntriesLaws.{entries_none, entries_append}
 use Rattle.fiber_choice.proofs.PreimagesLaws.{has_hash, find_by, counts_by}
 
+-- whether a pair has a hash
+abbrev pub pair_has : List ℕ → Preimage → Bool
+pair_has h p = same p.hash h
+
 -- the first pair with a hash; the first of the list is at place i
-unfoldable pub find_in : ℕ → List Preimage → List ℕ → Found
-find_in i [] h = None
-find_in i (p ∷ ps) h =
-    let next = find_in (i + 1) ps h in
-    cond (same p.hash h) (At i) next
+abbrev pub find_in : ℕ → List Preimage → List ℕ → Option ℕ
+find_in i ps h = position_from (pair_has h) i ps
 
--- the hash and the preimage of the pair at a place; past the end there are none
-abbrev pub hash_at : List Preimage → ℕ → List ℕ
-hash_at ps i = get_or (map (λ (p : Preimage). p.hash) ps) i []
-
+-- the preimage of the pair at a place; past the end there is none
 abbrev pub preimage_at : List Preimage → ℕ → List ℕ
 preimage_at ps i = get_or (map (λ (p : Preimage). p.preimage) ps) i []
 
@@ -43,12 +41,6 @@ Sized (p ∷ ps) = SizedPair p × Sized ps
 pub sized : (ps : List Preimage) → Sized ps
 sized [] = tt
 sized (p ∷ ps) = (record { hash_32 = p.hash_32; preimage_32 = p.preimage_32 }, sized ps)
-
--- the hash of the pair at a place, as a list's element has it
-pub hash_at_is : (ps : List Preimage) (i : ℕ) (p : Preimage) → i < length ps → (get_or ps i p).hash ≡ hash_at ps i
-hash_at_is [] i p l = absurd (omega arith)
-hash_at_is (q ∷ ps) zero p l = refl
-hash_at_is (q ∷ ps) (suc i) p l = hash_at_is ps i p (omega arith)
 
 -- ---- the flat slice's entries
 
@@ -77,11 +69,8 @@ entries_flat (p ∷ ps) z = entries_append pair_len (bytes_of p) (flat_pairs ps)
 -- ---- the search
 
 find_from : (i : ℕ) (ps : List Preimage) (h : List ℕ) → Sized ps → find_in i ps h ≡ find_first (has_hash h) i (map bytes_of ps)
-unfolding find_in
-find_from i [] h z = sym (find_none (has_hash h) i)
-find_from i (p ∷ ps) h z =
-    rw (find_more (has_hash h) i (bytes_of p) (map bytes_of ps), pair_hash_lem p z.0)
-    (ap (λ (next : Found). cond (same p.hash h) (At i) next) (find_from (i + 1) ps h z.1))
+find_from i [] h z = refl
+find_from i (p ∷ ps) h z = rw (pair_hash_lem p z.0) (ap (λ (next : Option ℕ). cond (same p.hash h) (Some i) next) (find_from (i + 1) ps h z.1))
 
 -- on the same pairs, this search and the flat slice's find the same
 pub find_agrees : (ps : List Preimage) (h : List ℕ) → Sized ps → find_in 0 ps h ≡ find_pair (entries pair_len (flat_pairs ps)) h
@@ -110,27 +99,26 @@ counts_agrees ps z t i =
 -- ---- the pair that is found
 
 -- no answer is a place and nothing at once
-abbrev NoPlace : Found → Type 0
-NoPlace (At i) = ⊥
+abbrev NoPlace : Option ℕ → Type 0
+NoPlace (Some i) = ⊥
 NoPlace None = Unit {0}
 
-abbrev place_of : Found → ℕ
-place_of (At i) = i
+abbrev place_of : Option ℕ → ℕ
+place_of (Some i) = i
 place_of None = 0
 
 -- the search's next step stays within the list, so this one does
-within_step : (t : Bool) (k i n : ℕ) (next : Found) → (next ≡ At i → i < k + 1 + n) → cond t (At k) next ≡ At i → i < k + suc n
+within_step : (t : Bool) (k i n : ℕ) (next : Option ℕ) → (next ≡ Some i → i < k + 1 + n) → cond t (Some k) next ≡ Some i → i < k + suc n
 within_step true k i n next f e =
     let g : k ≡ i = ap place_of e in
     omega (arith, g)
 within_step false k i n next f e = omega (arith, f e)
 
-within_from : (k : ℕ) (ps : List Preimage) (h : List ℕ) (i : ℕ) → find_in k ps h ≡ At i → i < k + length ps
-unfolding find_in
+within_from : (k : ℕ) (ps : List Preimage) (h : List ℕ) (i : ℕ) → find_in k ps h ≡ Some i → i < k + length ps
 within_from k [] h i e = absurd (subst NoPlace e tt)
 within_from k (p ∷ ps) h i e = within_step (same p.hash h) k i (length ps) (find_in (k + 1) ps h) (within_from (k + 1) ps h i) e
 
 -- the pair that the search names is one of the list, and its preimage is the one that the choice looks at in the flat slice
-pub found_preimage : (ps : List Preimage) (h : List ℕ) → Sized ps → (i : ℕ) → find_in 0 ps h ≡ At i
+pub found_preimage : (ps : List Preimage) (h : List ℕ) → Sized ps → (i : ℕ) → find_in 0 ps h ≡ Some i
     → (i < length ps) × (pair_preimage (get_or (entries pair_len (flat_pairs ps)) i []) ≡ preimage_at ps i)
 found_preimage ps h z i e = (omega (arith, within_from 0 ps h i e), preimage_agrees ps z i)

@@ -1,11 +1,12 @@
 -- The text that the program `settle` prints; docs/SCOPE.md, "Edges". Text is a list of character codes.
-use Rattle.std.specs.Prelude.{ℕ, zero, suc, ◌+◌, ◌*◌, ◌/◌, ◌%◌, ◌≡◌, cond, List, [], ◌∷◌, ◌++◌, length, get_or, take, drop, ltb}
+use Rattle.std.specs.Prelude.{ℕ, zero, suc, ◌+◌, ◌*◌, ◌/◌, ◌%◌, ◌≡◌, cond, List, [], ◌∷◌, ◌++◌, length, get_or, take, drop, ltb, Result, Ok, Err}
 use Prim.Native.Char.{code}
 use Prim.Native.String.{String, [] as []ˢ, ◌∷◌ as ◌∷ˢ◌}
 use Rattle.std.proofs.lemmas.List.Edits.{sets}
 use Rattle.fiber_bytes.specs.Bytes.{part}
-use Rattle.fiber_types.specs.declared.answer.Written.{Written}
-use Rattle.fiber_types.specs.declared.answer.Written.TheVariants as WrittenCase
+use Rattle.fiber_refusal.specs.declared.Refusal.{Refusal}
+use Rattle.fiber_refusal.specs.declared.Refusal.TheVariants.{NotWell}
+use Rattle.fiber_refusal.specs.Rows.{number_of, place_of}
 use Rattle.fiber_types.specs.Records.{Outcome, unwritten}
 use Rattle.fiber_witness.specs.Witness.{record_len, chunks}
 use Rattle.fiber_witness.specs.Update.{updated}
@@ -74,13 +75,13 @@ state_text h s =
 -- ---- the report
 
 -- the input: one byte h, then the witness; 14 at 0 above 65,536 bytes in all, or for none
-unfoldable pub of_input : List ℕ → List ℕ → Outcome Written
-of_input [] buffer = unwritten (WrittenCase.Refused 14 0) buffer
-of_input (h ∷ w) buffer = cond (ltb 65536 (1 + length w)) (unwritten (WrittenCase.Refused 14 0) buffer) (updated h w buffer)
+unfoldable pub of_input : List ℕ → List ℕ → Outcome (Result ℕ Refusal)
+of_input [] buffer = unwritten (Err NotWell) buffer
+of_input (h ∷ w) buffer = cond (ltb 65536 (1 + length w)) (unwritten (Err NotWell) buffer) (updated h w buffer)
 
-unfoldable pub text_of : ℕ → List ℕ → Written → List ℕ
-text_of h buffer (WrittenCase.Bytes len) = state_text h (take len buffer)
-text_of h buffer (WrittenCase.Refused number place) = refused_text number place
+unfoldable pub text_of : ℕ → List ℕ → Result ℕ Refusal → List ℕ
+text_of h buffer (Ok len) = state_text h (take len buffer)
+text_of h buffer (Err r) = refused_text (number_of r) (place_of r)
 
 -- the text, and the buffer for the updated state as it is left
 unfoldable pub reported : List ℕ → List ℕ → Outcome (List ℕ)

@@ -1,2 +1,2 @@
 -- What only private contracts cite: nobody has to believe it.
-pub mod Hex
+pub mod Written

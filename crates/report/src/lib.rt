@@ -1,194 +1,222 @@
 // The text that the program `settle` prints: the updated state, or why the witness was turned down.
 //
-// The writers here take any output. Bytes for which it has no room are dropped, and the answered place says how many there
-// were to be.
+// The text is written into any lent output. Bytes for which it has no room are dropped, and the answered length says how many
+// there were to be.
 //
-// For `settle`. Uses the two faces and fiber_bytes.
+// For `settle`. Uses the two faces, fiber_bytes and itoa.
 #![tactic(auto)]
 
-ghost use Rattle.std.specs.Prelude.{◌≡◌, [], ◌∷◌, ◌+◌, ◌*◌, ◌≤◌, ◌<◌, length, get_or, set};
-ghost use Rattle.std.proofs.lemmas.List.Edits.{sets};
+ghost use Rattle.std.specs.Prelude.{◌≡◌, [], ◌∷◌, ◌+◌, ◌*◌, ◌/◌, ◌≤◌, ◌<◌, ◌^◌, length, get_or, take, drop};
+ghost use Rattle.fiber_bytes.specs.Bytes.{part};
 ghost use Rattle.fiber_witness.specs.Witness.{record_len, chunks};
+ghost use Rattle.fiber_types.specs.Records.{Gives};
 ghost use Rattle.report.specs.Report as S;
-ghost use Rattle.report.specs.inner.Hex.{hex_by};
+ghost use Rattle.report.specs.inner.Written.{Fits, written};
 
 use fiber_bytes::{part_of, put};
-use fiber_types::answer::Written;
+use fiber_types::Refusal;
 use fiber_types::layout::{RECORD_FIXED, SHARE_AMOUNT, SHARE_LEN};
+use itoa::Buffer;
 use watchtower::update::update;
 
 // A longer input is turned down.
 const MOST_INPUT: usize = 65_536;
 
-fn put_byte(out: &mut [u8], at: usize, b: u8)
-    ensures { out.new ≡ set out.old at b }
-{
-    if at < out.len() {
-        out[at] = b;
-    }
-}
-
-// A word, as it stands.
-fn put_word(out: &mut [u8], at: usize, word: &[u8]) -> usize
-    requires { (at ≤ 1000000) × (length word.now ≤ 1000000) }
-    ensures value { result ≡ at + length word.now }
-    ensures out_after { out.new ≡ sets out.old at word.now }
-{
-    put(out, at, word);
-    at + word.len()
-}
-
+// The crate hex is not called: it writes to the heap or to an output of just that length, and a lent one may be too short.
 fn hex_digit(x: u8) -> u8
     requires { x < 16 }
     ensures { result ≡ S.hex_digit x }
 {
-    if x < 10 { 48 + x } else { 87 + x }
+    if x < 10 { b'0' + x } else { b'a' - 10 + x }
 }
 
-fn put_hex_byte(out: &mut [u8], at: usize, b: u8)
-    requires { at ≤ 2000000 }
-    ensures { out.new ≡ sets out.old at (S.hex (b ∷ [])) }
+// The records of a state and its two shares, remote and local.
+fn parts(state: &[u8], records_len: usize) -> (&[u8], &[u8], &[u8])
+    requires { 73 + records_len ≤ length state.now }
+    ensures tlcs { result.0.now ≡ take records_len (drop 1 state.now) }
+    ensures remote { result.1.now ≡ part state.now (1 + records_len) 36 }
+    ensures local { result.2.now ≡ part state.now (1 + records_len + 36) 36 }
+    ensures share_len { (length result.1.now ≡ 36) × (length result.2.now ≡ 36) }
 {
-    put_byte(out, at, hex_digit(b / 16));
-    put_byte(out, at + 1, hex_digit(b % 16));
-}
-
-// Two digits to a byte, in the bytes' order, or with the last byte first, which is a number's highest.
-fn put_hex(out: &mut [u8], at: usize, src: &[u8], highest: bool) -> usize
-    requires { (at ≤ 1000000) × (length src.now ≤ 1000) }
-    ensures value { result ≡ at + length (hex_by highest src.now) }
-    ensures out_after { out.new ≡ sets out.old at (hex_by highest src.now) }
-{
-    let n = src.len();
-    for i in 0..n {
-        let from = if highest { n - 1 - i } else { i };
-        put_hex_byte(out, at + 2 * i, src[from]);
-    }
-    at + 2 * n
-}
-
-// How many digits a number has.
-fn count_digits(x: usize) -> usize
-    ensures { (result ≡ length (S.decimal x)) × (result ≤ 20) }
-{
-    let mut k = 1;
-    let mut rest = x;
-    while 10 <= rest {
-        rest = rest / 10;
-        k += 1;
-    }
-    k
-}
-
-// The digits of a number, the last one first, since that is how they are found.
-fn put_decimal(out: &mut [u8], at: usize, x: usize) -> usize
-    requires { at ≤ 1000000 }
-    ensures value { (result ≡ at + length (S.decimal x)) × (length (S.decimal x) ≤ 20) }
-    ensures out_after { out.new ≡ sets out.old at (S.decimal x) }
-{
-    let k = count_digits(x);
-    let mut rest = x;
-    let mut i = k;
-    while 0 < i {
-        i -= 1;
-        put_byte(out, at + i, (48 + rest % 10) as u8);
-        rest = rest / 10;
-    }
-    at + k
-}
-
-fn put_tlc_line(out: &mut [u8], at: usize, i: usize, tlc: &[u8]) -> usize
-    requires { (at ≤ 100000) × (length tlc.now ≤ 1000) }
-    ensures value { (result ≡ at + length (S.tlc_line i tlc.now)) × (length (S.tlc_line i tlc.now) ≤ 26 + 2 * length tlc.now) }
-    ensures out_after { out.new ≡ sets out.old at (S.tlc_line i tlc.now) }
-{
-    let place = put_word(out, at, b"tlc ");
-    let behind = put_decimal(out, place, i);
-    let hex = put_word(out, behind, b" ");
-    let end = put_hex(out, hex, tlc, false);
-    put_word(out, end, b"\n")
-}
-
-// The lines of n records of size bytes each.
-fn put_tlc_lines(out: &mut [u8], at: usize, tlcs: &[u8], n: usize, size: usize) -> usize
-    requires at_bound { (at ≤ 100) × ((n ≤ 255) × (size ≤ 97)) }
-    requires size_in_bounds { n * size ≤ length tlcs.now }
-    ensures value { (result ≡ at + length (S.tlc_lines 0 (chunks size n tlcs.now))) × (result ≤ 60000) }
-    ensures out_after { out.new ≡ sets out.old at (S.tlc_lines 0 (chunks size n tlcs.now)) }
-{
-    let mut end = at;
-    let mut from = 0;
-    for i in 0..n {
-        end = put_tlc_line(out, end, i, &tlcs[from..from + size]);
-        from += size;
-    }
-    end
-}
-
-fn put_share_line(out: &mut [u8], at: usize, word: &[u8], share: &[u8]) -> usize
-    requires { (at ≤ 100000) × (length word.now ≤ 10) }
-    ensures value { (result ≡ at + length (S.share_line word.now share.now)) × (result ≤ at + 100) }
-    ensures out_after { out.new ≡ sets out.old at (S.share_line word.now share.now) }
-{
-    let key = put_word(out, at, word);
-    let behind = put_hex(out, key, part_of(share, 0, SHARE_AMOUNT), false);
-    let amount = put_word(out, behind, b" ");
-    let end = put_hex(out, amount, part_of(share, SHARE_AMOUNT, 16), true);
-    put_word(out, end, b"\n")
-}
-
-fn put_refused(out: &mut [u8], number: usize, place: usize) -> usize
-    ensures value { result ≡ length (S.refused_text number place) }
-    ensures out_after { out.new ≡ sets out.old 0 (S.refused_text number place) }
-{
-    let first = put_word(out, 0, b"refused ");
-    let behind = put_decimal(out, first, number);
-    let second = put_word(out, behind, b" at ");
-    let end = put_decimal(out, second, place);
-    put_word(out, end, b"\n")
-}
-
-// A whole state.
-fn put_state_text(out: &mut [u8], h: usize, state: &[u8]) -> usize
-    requires { (h ≤ 32) × (73 + get_or state.now 0 0 * record_len h ≤ length state.now) }
-    ensures value { result ≡ length (S.state_text h state.now) }
-    ensures out_after { out.new ≡ sets out.old 0 (S.state_text h state.now) }
-{
-    let size = RECORD_FIXED + h;
-    let n = state[0] as usize;
-    let share_place = 1 + n * size;
-    let count = put_word(out, 0, b"tlcs ");
-    let behind = put_decimal(out, count, n);
-    let first = put_word(out, behind, b"\n");
-    let remote = put_tlc_lines(out, first, &state[1..], n, size);
-    let local = put_share_line(
-        out,
-        remote,
-        b"remote ",
-        part_of(state, share_place, SHARE_LEN),
-    );
-    put_share_line(
-        out,
-        local,
-        b"local ",
-        part_of(state, share_place + SHARE_LEN, SHARE_LEN),
+    let remote = 1 + records_len;
+    let local = remote + SHARE_LEN;
+    (
+        &state[1..remote],
+        &state[remote..local],
+        &state[local..local + SHARE_LEN],
     )
+}
+
+// The text so far, at the front of a lent output.
+//
+// It is no `fmt::Write`: `write!` says what was written only where it answers `Ok`, and no clause says that it does for a writer
+// that takes everything, while `report` cannot fail.
+#[derive(Drop)]
+struct Text<'a> {
+    out: &'a mut [u8],
+    len: usize,
+}
+
+impl<'a> Text<'a> {
+    // A word, as it stands.
+    #[tactic(auto, unfolding(crate::specs::inner::Written::written))]
+    fn word(&mut self, word: &[u8])
+        requires { Fits self.old word.now }
+        ensures { self.new ≡ written self.old word.now }
+    {
+        put(self.out, self.len, word);
+        self.len += word.len();
+    }
+
+    // One character: a copy of so few costs more than its store.
+    #[tactic(auto, unfolding(crate::specs::inner::Written::written))]
+    fn character(&mut self, character: u8)
+        requires { Fits self.old (character ∷ []) }
+        ensures { self.new ≡ written self.old (character ∷ []) }
+    {
+        if self.len < self.out.len() {
+            self.out[self.len] = character;
+        }
+        self.len += 1;
+    }
+
+    // Two digits to a byte.
+    #[tactic(auto, using(crate::proofs::ReportLaws::writes), unfolding(crate::specs::Report::hex))]
+    fn hex_byte(&mut self, byte: u8)
+        requires { Fits self.old (S.hex (byte ∷ [])) }
+        ensures { self.new ≡ written self.old (S.hex (byte ∷ [])) }
+    {
+        self.character(hex_digit(byte / 16));
+        self.character(hex_digit(byte % 16));
+    }
+
+    fn hex(&mut self, bytes: &[u8])
+        requires { Fits self.old (S.hex bytes.now) }
+        ensures { self.new ≡ written self.old (S.hex bytes.now) }
+    {
+        for byte in bytes {
+            self.hex_byte(*byte);
+        }
+    }
+
+    // The last byte first, which is a number's highest.
+    fn hex_highest(&mut self, bytes: &[u8])
+        requires { Fits self.old (S.hex_highest bytes.now) }
+        ensures { self.new ≡ written self.old (S.hex_highest bytes.now) }
+    {
+        for byte in bytes.iter().rev() {
+            self.hex_byte(*byte);
+        }
+    }
+
+    #[tactic(auto, using(crate::proofs::ReportLaws::decimal_is))]
+    fn decimal(&mut self, x: usize)
+        requires { Fits self.old (S.decimal x) }
+        ensures { self.new ≡ written self.old (S.decimal x) }
+    {
+        self.word(Buffer::new().format(x).as_bytes());
+    }
+
+    #[tactic(auto, using(crate::proofs::ReportLaws::writes))]
+    fn tlc_line(&mut self, i: usize, tlc: &[u8])
+        requires { Fits self.old (S.tlc_line i tlc.now) }
+        ensures { self.new ≡ written self.old (S.tlc_line i tlc.now) }
+    {
+        self.word(b"tlc ");
+        self.decimal(i);
+        self.word(b" ");
+        self.hex(tlc);
+        self.word(b"\n");
+    }
+
+    // The lines of records of size bytes each.
+    fn tlc_lines(&mut self, tlcs: &[u8], size: usize)
+        requires size_is_positive { 0 < size }
+        requires fits { Fits self.old (S.tlc_lines 0 (chunks size (length tlcs.now / size) tlcs.now)) }
+        ensures { self.new ≡ written self.old (S.tlc_lines 0 (chunks size (length tlcs.now / size) tlcs.now)) }
+    {
+        for (i, tlc) in tlcs.chunks_exact(size).enumerate() {
+            self.tlc_line(i, tlc);
+        }
+    }
+
+    #[tactic(auto, using(crate::proofs::ReportLaws::writes))]
+    fn share_line(&mut self, word: &[u8], share: &[u8])
+        requires whole { length share.now ≡ 36 }
+        requires fits { Fits self.old (S.share_line word.now share.now) }
+        ensures { self.new ≡ written self.old (S.share_line word.now share.now) }
+    {
+        let (key, amount) = share.split_at(SHARE_AMOUNT);
+        self.word(word);
+        self.hex(key);
+        self.word(b" ");
+        self.hex_highest(amount);
+        self.word(b"\n");
+    }
+
+    #[tactic(auto, using(crate::proofs::ReportLaws::writes))]
+    fn refused(&mut self, number: usize, place: usize)
+        requires { Fits self.old (S.refused_text number place) }
+        ensures { self.new ≡ written self.old (S.refused_text number place) }
+    {
+        self.word(b"refused ");
+        self.decimal(number);
+        self.word(b" at ");
+        self.decimal(place);
+        self.word(b"\n");
+    }
+
+    // A whole state.
+    #[tactic(auto, using(crate::proofs::ReportLaws::writes))]
+    fn state(&mut self, h: usize, state: &[u8])
+        requires whole { (h ≤ 32) × (73 + get_or state.now 0 0 * record_len h ≤ length state.now) }
+        requires at_front { self.old.len ≡ 0 }
+        ensures { self.new ≡ written self.old (S.state_text h state.now) }
+    {
+        let size = RECORD_FIXED + h;
+        let n = usize::from(state[0]);
+        let (tlcs, remote, local) = parts(state, n * size);
+        self.word(b"tlcs ");
+        self.decimal(n);
+        self.word(b"\n");
+        self.tlc_lines(tlcs, size);
+        self.share_line(b"remote ", remote);
+        self.share_line(b"local ", local);
+    }
+
+    // What an input comes to, the update into the buffer.
+    fn outcome(&mut self, input: &[u8], buffer: &mut [u8])
+        requires { self.old.len ≡ 0 }
+        ensures { (self.new ≡ written self.old (S.reported input.now buffer.old).answer)
+            × (buffer.new ≡ (S.reported input.now buffer.old).bytes) }
+    {
+        match updated(input, buffer) {
+            Ok(len) => self.state(usize::from(input[0]), part_of(buffer, 0, len)),
+            Err(r) => self.refused(r.number(), r.place()),
+        }
+    }
+}
+
+// The update of an input: one byte h, then a witness.
+#[tactic(auto, using(crate::proofs::ReportLaws::cases))]
+fn updated(input: &[u8], buffer: &mut [u8]) -> Result<usize, Refusal>
+    ensures { Gives (S.of_input input.now buffer.old) result buffer.new }
+{
+    match input.split_first() {
+        Some((h, witness)) if input.len() <= MOST_INPUT => {
+            update(usize::from(*h), witness, buffer)
+        }
+        _ => Err(Refusal::NotWell),
+    }
 }
 
 // Reads one byte h and a witness, updates it into the buffer, and writes to out what `settle` prints of it; answers the
 // text's length.
+#[tactic(auto, unfolding(crate::specs::inner::Written::written))]
 pub fn report(input: &[u8], buffer: &mut [u8], out: &mut [u8]) -> usize
     ensures { S.Prints (S.reported input.now buffer.old) out.old result out.new buffer.new }
 {
-    if input.len() < 1 {
-        return put_refused(out, 14, 0);
-    }
-    if MOST_INPUT < input.len() {
-        return put_refused(out, 14, 0);
-    }
-    let h = input[0] as usize;
-    match update(h, &input[1..], buffer) {
-        Written::Bytes(len) => put_state_text(out, h, part_of(buffer, 0, len)),
-        Written::Refused { number, place } => put_refused(out, number, place),
-    }
+    let mut text = Text { out, len: 0 };
+    text.outcome(input, buffer);
+    text.len
 }

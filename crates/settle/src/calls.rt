@@ -1,8 +1,10 @@
 // Reads and writes that are made again where a signal interrupted them (EINTR) or where they would have had to wait (EAGAIN). Where one fails for
 // good, its error says why.
 //
-// No contract can say which bytes are read or written.
-ghost use Rattle.std.specs.Prelude.{◌≤◌, length, IfOk};
+// No contract can say which bytes are read or written. std's own `read_to_end`, `read_exact` and `write_all` are not called: they do not wait where
+// a call would have had to, and `read_to_end` needs the heap.
+ghost use Rattle.std.specs.Prelude.{◌≤◌, List, length, IfOk};
+ghost use Rattle.std.specs.List.{FoldsTo};
 
 use std::io::{Error, ErrorKind, Read, Result};
 use std::thread;
@@ -29,38 +31,32 @@ fn again(clock: &impl Clock, error: &Error) -> bool {
     }
 }
 
-// A read, made again. The last call is the one whose error is answered.
+// A call, made again. The last call is the one whose error is answered.
+fn made_again<F: FnMut() -> Result<usize>>(clock: &impl Clock, mut call: F) -> Result<usize>
+    requires { F.IsAlwaysCallable call }
+    ensures { (tries : List _) × (before : F) × (after : F) × FoldsTo F.step call tries before × F.step before result after }
+{
+    for _ in 0..AGAIN {
+        match call() {
+            Err(e) if again(clock, &e) => {}
+            answer => return answer,
+        }
+    }
+    call()
+}
+
+// A read, made again.
 fn read_some(rt: &HostRuntime, into: &mut [u8]) -> Result<usize>
     ensures { IfOk result (λ n. n ≤ length into.new) }
 {
-    for _ in 0..AGAIN {
-        match rt.stdin().read(into) {
-            Ok(n) => return Ok(n),
-            Err(e) => {
-                if !again(rt, &e) {
-                    return Err(e);
-                }
-            }
-        }
-    }
-    rt.stdin().read(into)
+    made_again(rt, || rt.stdin().read(into))
 }
 
 // A write, made again.
 fn write_some(rt: &HostRuntime, bytes: &[u8]) -> Result<usize>
     ensures { IfOk result (λ n. n ≤ length bytes.now) }
 {
-    for _ in 0..AGAIN {
-        match rt.write_some(bytes) {
-            Ok(n) => return Ok(n),
-            Err(e) => {
-                if !again(rt, &e) {
-                    return Err(e);
-                }
-            }
-        }
-    }
-    rt.write_some(bytes)
+    made_again(rt, || rt.write_some(bytes))
 }
 
 // Reads until the input ends or buf is full, and answers how many bytes now stand at the start of buf.
@@ -69,24 +65,24 @@ pub fn read_all(rt: &HostRuntime, buf: &mut [u8]) -> Result<usize>
 {
     let mut at = 0;
     while at < buf.len() {
-        let n = read_some(rt, &mut buf[at..])?;
-        if n == 0 {
-            break;
+        match read_some(rt, &mut buf[at..])? {
+            0 => break,
+            n => at += n,
         }
-        at += n;
     }
     Ok(at)
 }
 
 // Writes all of bytes, or fails at a write that fails or takes nothing; some of them may then have been written.
 pub fn write_all(rt: &HostRuntime, bytes: &[u8]) -> Result<()> {
-    let mut at = 0;
-    while at < bytes.len() {
-        let n = write_some(rt, &bytes[at..])?;
-        if n == 0 {
-            return Err(Error::new(ErrorKind::WriteZero, "failed to write whole buffer"));
+    let mut rest = bytes;
+    while !rest.is_empty() {
+        match write_some(rt, rest)? {
+            0 => {
+                return Err(Error::new(ErrorKind::WriteZero, "failed to write whole buffer"));
+            }
+            n => rest = &rest[n..],
         }
-        at += n;
     }
     Ok(())
 }

@@ -5,46 +5,49 @@
 
 mod calls;
 
-ghost use Rattle.std.specs.Prelude.{◌≡◌, length};
-
 use calls::{read_all, write_all};
 use fiber_bytes::part_of;
 use report::report;
+use std::fmt;
 use std::io::Error;
 use std::process::ExitCode;
 
-// One byte more than is taken, so that a longer input is seen to be longer.
-fn input_buffer() -> [u8; 65_537]
-    ensures { 65537 ≡ length result }
-{
-    [0; 65_537]
+// No state, no text and no input that is taken is longer.
+const MOST: usize = 65_536;
+
+// What could not be done, and why.
+#[derive(Drop)]
+enum Failure {
+    Read(Error),
+    Write(Error),
 }
 
-// No state and no text is longer.
-fn buffer() -> [u8; 65_536]
-    ensures { 65536 ≡ length result }
-{
-    [0; 65_536]
+impl fmt::Display for Failure {
+    fn fmt<W: fmt::Write>(&self, f: &mut fmt::Formatter<W>) -> fmt::Result {
+        match self {
+            Failure::Read(e) => write!(f, "standard input could not be read: {e}"),
+            Failure::Write(e) => write!(f, "standard output could not be written: {e}"),
+        }
+    }
 }
 
-// Says in one line what could not be done, and why. Where that cannot be said either, nothing is left to say it to.
-fn failed(rt: &impl Eprint, what: &str, error: &Error) -> ExitCode {
-    let _ = eprintln!(rt; "settle: {what}: {error}");
-    ExitCode::FAILURE
+fn run(rt: &HostRuntime) -> Result<(), Failure> {
+    // One byte more than is taken, so that a longer input is seen to be longer. The buffers are fixed: the program uses no heap.
+    let mut input = [0; MOST + 1];
+    let n = read_all(rt, &mut input).map_err(Failure::Read)?;
+    let mut updated = [0; MOST];
+    let mut out = [0; MOST];
+    let length = report(part_of(&input, 0, n), &mut updated, &mut out);
+    write_all(rt, part_of(&out, 0, length)).map_err(Failure::Write)
 }
 
 fn main(rt: HostRuntime) -> ExitCode {
-    let mut input = input_buffer();
-    match read_all(&rt, &mut input) {
-        Err(e) => failed(&rt, "standard input could not be read", &e),
-        Ok(n) => {
-            let mut updated = buffer();
-            let mut out = buffer();
-            let length = report(part_of(&input, 0, n), &mut updated, &mut out);
-            match write_all(&rt, part_of(&out, 0, length)) {
-                Err(e) => failed(&rt, "standard output could not be written", &e),
-                Ok(()) => ExitCode::SUCCESS,
-            }
+    match run(&rt) {
+        Ok(()) => ExitCode::SUCCESS,
+        Err(failure) => {
+            // Where that cannot be said either, nothing is left to say it to.
+            let _ = eprintln!(rt; "settle: {failure}");
+            ExitCode::FAILURE
         }
     }
 }

@@ -1,4 +1,3 @@
 -- Laws of the definitions that callers cite.
 pub mod ChooseLaws
-pub mod LowerLaws
 pub mod SettlementLaws

@@ -3,12 +3,13 @@
 use Prim.Native.Nat.{ℕ, ◌≤◌, ◌<◌}
 use mathlib.Core.Path.{◌≡◌, refl}
 use mathlib.Core.List.{List, [], ◌∷◌, ◌++◌}
+use Rattle.std.specs.Prelude.{Result, Ok, Err}
 use lib.ListN.{length}
 use lib.Seq.{sets}
 use Rattle.fiber_bytes.specs.Bytes.{le_bytes, numbers}
 use Rattle.fiber_bytes.proofs.BytesLaws.{numbers_one}
-use Rattle.fiber_types.specs.declared.answer.Written.{Written}
-use Rattle.fiber_types.specs.declared.answer.Written.TheVariants as WrittenCase
+use Rattle.fiber_refusal.specs.declared.Refusal.{Refusal}
+use Rattle.fiber_refusal.specs.Rows.{number_of, place_of}
 use Rattle.fiber_types.specs.Records.{Outcome}
 use Rattle.fiber_witness.specs.Update.{updated}
 use Rattle.c_answer.specs.Answers.{Leaves}
@@ -24,20 +25,20 @@ pub update_written : (h : ℕ) (w out answer : List ℕ) → update_call h w out
 unfolding update_call
 update_written h w out answer = refl
 
-module _ (w : Outcome Written) (out answer : List ℕ) where
+module _ (w : Outcome (Result ℕ Refusal)) (out answer : List ℕ) where
   pub written_short : length answer < 24 → Leaves (written_call w out answer) 14 out answer
   unfolding written_call
   written_short f = call_short 24 (written_answer w.answer) w.bytes out answer f
 
   module _ (f : 24 ≤ length answer) (o : List ℕ) (e : o ≡ w.bytes) where
-    pub written_refused : (number place : ℕ) → WrittenCase.Refused number place ≡ w.answer → (a : List ℕ) → a ≡ sets answer 0 (le_bytes 8 number ++ le_bytes 8 place)
-        → Leaves (written_call w out answer) number o a
+    pub written_refused : (r : Refusal) → Err r ≡ w.answer → (a : List ℕ) → a ≡ sets answer 0 (le_bytes 8 (number_of r) ++ le_bytes 8 (place_of r))
+        → Leaves (written_call w out answer) (number_of r) o a
     unfolding written_call written_answer
-    written_refused number place g a s =
-        call_by 24 written_answer w.answer w.bytes out answer f (WrittenCase.Refused number place) g (refused_by number place answer s) e
+    written_refused r g a s =
+        call_by 24 written_answer w.answer w.bytes out answer f (Err r) g (refused_by (number_of r) (place_of r) answer s) e
 
-    pub written_bytes : (len : ℕ) → WrittenCase.Bytes len ≡ w.answer → (a : List ℕ) → a ≡ sets answer 0 ((le_bytes 8 0 ++ le_bytes 8 0) ++ le_bytes 8 len)
+    pub written_bytes : (len : ℕ) → Ok len ≡ w.answer → (a : List ℕ) → a ≡ sets answer 0 ((le_bytes 8 0 ++ le_bytes 8 0) ++ le_bytes 8 len)
         → Leaves (written_call w out answer) 0 o a
     unfolding written_call written_answer
     written_bytes len g a s =
-        call_by 24 written_answer w.answer w.bytes out answer f (WrittenCase.Bytes len) g (fields_by (numbers (len ∷ [])) answer (rw numbers_one s)) e
+        call_by 24 written_answer w.answer w.bytes out answer f (Ok len) g (fields_by (numbers (len ∷ [])) answer (rw numbers_one s)) e

@@ -9,13 +9,14 @@ use c_answer::front::{accept, refuse};
 use fiber_types::epoch::Epoch;
 use fiber_types::layout::{UNLOCK_LOCAL, UNLOCK_REMOTE};
 use fiber_types::tlc::Amount;
-use watchtower::choice::{Choice, ChoiceAnswer, Decision, Delay, Key, Scalars, Side, Way};
+use watchtower::choice::{Choice, Decision, Key, NoChoice, Request, SettlementData, Side, Way};
 use watchtower::{choice, wait};
 
 // The bytes that the answer takes.
 pub const CHOOSE_ANSWER: usize = 152;
 
 // What the choice is: 0 a share, 1 a TLC by timeout, 2 a TLC by a preimage; the unlock's byte; the pair's place.
+#[tactic(auto, using(fiber_choice::proofs::ByteLaws::byte_remote, fiber_choice::proofs::ByteLaws::byte_local, fiber_choice::proofs::ByteLaws::byte_tlc), unfolding(crate::specs::inner::Numbers::choice_numbers, crate::specs::Choose::kind_number, crate::specs::Choose::pair_number))]
 fn choice_numbers(choice: Choice) -> [u64; 3]
     ensures { result ≡ I.choice_numbers choice }
 {
@@ -32,6 +33,7 @@ fn choice_numbers(choice: Choice) -> [u64; 3]
 }
 
 // Which key: 0 and 0 for our settlement key, 1 and the place of a settlement TLC.
+#[tactic(auto, unfolding(crate::specs::Choose::key_numbers))]
 fn key_numbers(key: Key) -> [u64; 2]
     ensures { result ≡ S.key_numbers key }
 {
@@ -42,21 +44,17 @@ fn key_numbers(key: Key) -> [u64; 2]
 }
 
 // 0 for no delay, or 1 and its number, index and length.
-fn delay_numbers(delay: Delay) -> [u64; 4]
+#[tactic(auto, unfolding(crate::specs::Choose::delay_numbers))]
+fn delay_numbers(delay: Option<Epoch>) -> [u64; 4]
     ensures { result ≡ S.delay_numbers delay }
 {
     match delay {
-        Delay::None => [0, 0, 0, 0],
-        Delay::Epoch(e) => [1, e.number, e.index, e.length],
+        None => [0, 0, 0, 0],
+        Some(e) => [1, e.number, e.index, e.length],
     }
 }
 
-fn flag_number(flag: bool) -> u64
-    ensures { result ≡ S.flag_number flag }
-{
-    if flag { 1 } else { 0 }
-}
-
+#[tactic(auto, using(crate::proofs::ChooseLaws::key_two, crate::proofs::ChooseLaws::delay_four), unfolding(crate::specs::Choose::decision_numbers, crate::specs::inner::Numbers::choice_numbers, crate::specs::Choose::flag_number))]
 fn decision_numbers(decision: Decision) -> [u64; 17]
     ensures { result ≡ S.decision_numbers decision }
 {
@@ -84,21 +82,23 @@ fn decision_numbers(decision: Decision) -> [u64; 17]
         decision.state_len as u64,
         decision.args_len as u64,
         c[2],
-        flag_number(decision.last),
+        u64::from(decision.last),
     ]
 }
 
-fn answer_choice(answer: &mut [u8], choice: ChoiceAnswer) -> u64
-    ensures { Leaves (answered (S.choose_answer choice) [] answer.old) result [] answer.new }
+#[tactic(auto, unfolding(crate::specs::Choose::choose_answer))]
+fn answer_choice(answer: &mut [u8], chosen: Result<Decision, NoChoice>) -> u64
+    ensures { Leaves (answered (S.choose_answer chosen) [] answer.old) result [] answer.new }
 {
-    match choice {
-        ChoiceAnswer::Chosen(decision) => accept(answer, &decision_numbers(decision)),
-        ChoiceAnswer::Wait(waits) => refuse(answer, wait::number(waits), wait::place(waits)),
-        ChoiceAnswer::Refused { number, place } => refuse(answer, number, place),
+    match chosen {
+        Ok(decision) => accept(answer, &decision_numbers(decision)),
+        Err(NoChoice::Wait(waits)) => refuse(answer, wait::number(waits), wait::place(waits)),
+        Err(NoChoice::Refused(r)) => refuse(answer, r.number(), r.place()),
     }
 }
 
 // Chooses an unlock. With is_later the settlement is a later one, and its witness is looked at.
+#[tactic(auto, using(c_answer::proofs::AnswersLaws::answered_out), unfolding(crate::specs::Choose::choose_call, c_answer::specs::Answers::flag_call, c_answer::specs::Answers::call, c_answer::specs::Answers::is_flag))]
 pub fn fiber_settlement_choose(
     h: u64,
     for_remote: u8,
@@ -140,7 +140,7 @@ pub fn fiber_settlement_choose(
     if HIGHEST_FLAG < is_later {
         return refuse(answer, 14, 0);
     }
-    let scalars = Scalars {
+    let request = Request {
         h: h as usize,
         for_remote: for_remote == 1,
         time,
@@ -154,26 +154,23 @@ pub fn fiber_settlement_choose(
             index: current_index,
             length: current_length,
         },
-        local_amount: Amount {
-            low: local_low,
-            high: local_high,
-        },
-        remote_amount: Amount {
-            low: remote_low,
-            high: remote_high,
-        },
-    };
-    let chosen = choice::choose(
-        scalars,
-        is_later == 1,
         args,
-        tlcs,
-        local_key,
-        remote_key,
+        settlement: SettlementData {
+            tlcs,
+            local_amount: Amount {
+                low: local_low,
+                high: local_high,
+            },
+            remote_amount: Amount {
+                low: remote_low,
+                high: remote_high,
+            },
+            local_key,
+            remote_key,
+        },
         tracked,
         preimages,
-        witness,
-        out,
-    );
+    };
+    let chosen = choice::choose(&request, is_later == 1, witness, out);
     answer_choice(answer, chosen)
 }

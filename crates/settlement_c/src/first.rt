@@ -5,9 +5,11 @@ ghost use Rattle.settlement_c.specs.Settlement as S;
 use crate::written::{HIGHEST_FLAG, UPDATE_ANSWER, answer_written};
 use c_answer::front::refuse;
 use fiber_types::tlc::Amount;
+use watchtower::choice::SettlementData;
 use watchtower::first;
 
 // The record of one settlement TLC.
+#[tactic(auto, using(c_answer::proofs::AnswersLaws::answered_out), unfolding(crate::specs::Settlement::tlc_record_call, crate::specs::Settlement::flagged_call, c_answer::specs::Answers::flag_call, c_answer::specs::Answers::call, c_answer::specs::Answers::is_flag))]
 pub fn fiber_settlement_tlc_record(
     h: u64,
     for_remote: u8,
@@ -29,6 +31,7 @@ pub fn fiber_settlement_tlc_record(
 }
 
 // The first state.
+#[tactic(auto, using(c_answer::proofs::AnswersLaws::answered_out), unfolding(crate::specs::Settlement::first_state_call, crate::specs::Settlement::flagged_call, c_answer::specs::Answers::flag_call, c_answer::specs::Answers::call, c_answer::specs::Answers::is_flag))]
 pub fn fiber_settlement_first_state(
     h: u64,
     for_remote: u8,
@@ -52,23 +55,19 @@ pub fn fiber_settlement_first_state(
     if HIGHEST_FLAG < for_remote {
         return refuse(answer, 14, 0);
     }
-    let local = Amount {
-        low: local_low,
-        high: local_high,
-    };
-    let remote = Amount {
-        low: remote_low,
-        high: remote_high,
-    };
-    let written = first::settlement_data_witness(
-        h as usize,
-        for_remote == 1,
+    let lent = SettlementData {
         tlcs,
-        local,
-        remote,
+        local_amount: Amount {
+            low: local_low,
+            high: local_high,
+        },
+        remote_amount: Amount {
+            low: remote_low,
+            high: remote_high,
+        },
         local_key,
         remote_key,
-        out,
-    );
+    };
+    let written = first::settlement_data_witness(h as usize, for_remote == 1, &lent, out);
     answer_written(answer, written)
 }

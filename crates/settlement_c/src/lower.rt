@@ -7,9 +7,10 @@ ghost use Rattle.settlement_c.specs.Lower as S;
 
 use c_answer::front::{accept, put_front, refuse};
 use fiber_bytes::put;
-use fiber_types::epoch::{DueTest, Epoch, Scaled, is_due, mul};
-use fiber_types::key::{KeyAnswer, key_hash};
-use fiber_types::since::{Expiry, absolute_expiry};
+use fiber_types::due::is_due;
+use fiber_types::epoch::{Epoch, mul};
+use fiber_types::key::key_hash;
+use fiber_types::since::absolute_expiry;
 
 // The number of the interface, which include/fiber_settlement.h has too: it goes up with each change of a signature or of a layout.
 pub const ABI: u64 = 1;
@@ -24,6 +25,7 @@ pub const EXPIRY_ANSWER: usize = 32;
 pub const KEY_HASH_ANSWER: usize = 36;
 
 // The number of the interface, for a host to compare with its header's.
+#[tactic(auto, unfolding(crate::specs::Lower::abi))]
 pub fn fiber_settlement_abi() -> u64
     ensures { result ≡ S.abi }
 {
@@ -45,6 +47,7 @@ pub fn fiber_settlement_sha256(bytes: &[u8], out: &mut [u8; 32])
 }
 
 // An epoch's three fields scaled by a fraction.
+#[tactic(auto, unfolding(crate::specs::Lower::scale_call, crate::specs::Lower::scale_answer, c_answer::specs::Answers::call))]
 pub fn fiber_settlement_scale(
     number: u64,
     index: u64,
@@ -64,12 +67,13 @@ pub fn fiber_settlement_scale(
         length,
     };
     match mul(delay, numerator, denominator) {
-        Scaled::Epoch(e) => accept(answer, &[e.number, e.index, e.length]),
-        Scaled::Refused { number, place } => refuse(answer, number, place),
+        Ok(e) => accept(answer, &[e.number, e.index, e.length]),
+        Err(r) => refuse(answer, r.number(), r.place()),
     }
 }
 
 // The due test on nine fields.
+#[tactic(auto, unfolding(crate::specs::Lower::is_due_call, crate::specs::Lower::is_due_answer, c_answer::specs::Answers::call))]
 pub fn fiber_settlement_is_due(
     header_number: u64,
     header_index: u64,
@@ -104,13 +108,14 @@ pub fn fiber_settlement_is_due(
         length: current_length,
     };
     match is_due(header, delay, current) {
-        DueTest::Due => accept(answer, &[1]),
-        DueTest::NotDue => accept(answer, &[0]),
-        DueTest::Refused { number, place } => refuse(answer, number, place),
+        Ok(true) => accept(answer, &[1]),
+        Ok(false) => accept(answer, &[0]),
+        Err(r) => refuse(answer, r.number(), r.place()),
     }
 }
 
 // The expiry that a since value holds.
+#[tactic(auto, unfolding(crate::specs::Lower::expiry_call, crate::specs::Lower::expiry_answer, c_answer::specs::Answers::call))]
 pub fn fiber_settlement_expiry(since: u64, answer: &mut [u8]) -> u64
     ensures { Leaves (S.expiry_call since answer.old) result [] answer.new }
 {
@@ -118,27 +123,25 @@ pub fn fiber_settlement_expiry(since: u64, answer: &mut [u8]) -> u64
         return 14;
     }
     match absolute_expiry(since) {
-        Expiry::At(ms) => accept(answer, &[1, ms]),
-        Expiry::None => accept(answer, &[0, 0]),
+        Some(ms) => accept(answer, &[1, ms]),
+        None => accept(answer, &[0, 0]),
     }
 }
 
 // The hash of a public key.
+#[tactic(auto, using(c_answer::proofs::AnswersLaws::behind), unfolding(crate::specs::Lower::key_hash_call, crate::specs::Lower::key_hash_answer, c_answer::specs::Answers::call, c_answer::specs::Answers::answered))]
 pub fn fiber_settlement_key_hash(key: &[u8], answer: &mut [u8]) -> u64
     ensures { Leaves (S.key_hash_call key.now answer.old) result [] answer.new }
 {
     if answer.len() < KEY_HASH_ANSWER {
         return 14;
     }
-    let k = key_hash(key);
-    let hashed = k.answer;
-    let bytes = k.bytes;
-    match hashed {
-        KeyAnswer::Taken => {
+    match key_hash(key) {
+        Ok(hash) => {
             put_front(answer, 0, 0);
-            put(answer, 16, &bytes);
+            put(answer, 16, &hash);
             0
         }
-        KeyAnswer::Refused { number, place } => refuse(answer, number, place),
+        Err(refusal) => refuse(answer, refusal.number(), refusal.place()),
     }
 }

@@ -5,13 +5,13 @@ ghost use Rattle.settlement_c.specs.Settlement as S;
 
 use crate::written::{UPDATE_ANSWER, answer_written};
 use c_answer::front::{accept, refuse};
-use watchtower::witness::WitnessRead;
 use watchtower::{update, witness};
 
 // The bytes that the reader's answer takes.
 pub const READ_ANSWER: usize = 48;
 
 // Reads a witness w of a channel whose hashes have h bytes.
+#[tactic(auto, unfolding(crate::specs::Settlement::read_call, crate::specs::Settlement::read_answer, c_answer::specs::Answers::call))]
 pub fn fiber_settlement_read(h: u64, w: &[u8], answer: &mut [u8]) -> u64
     ensures { Leaves (S.read_call h w.now answer.old) result [] answer.new }
 {
@@ -19,25 +19,21 @@ pub fn fiber_settlement_read(h: u64, w: &[u8], answer: &mut [u8]) -> u64
         return 14;
     }
     match witness::read(h as usize, w) {
-        WitnessRead::Whole {
-            n,
-            unlock_count,
-            share_place,
-            first_unlock,
-        } => accept(
+        Ok(layout) => accept(
             answer,
             &[
-                n as u64,
-                unlock_count as u64,
-                share_place as u64,
-                first_unlock as u64,
+                layout.n as u64,
+                layout.unlock_count as u64,
+                layout.share_place as u64,
+                layout.first_unlock as u64,
             ],
         ),
-        WitnessRead::Refused { number, place } => refuse(answer, number, place),
+        Err(r) => refuse(answer, r.number(), r.place()),
     }
 }
 
 // Updates a witness w of a channel whose hashes have h bytes: the state left goes to the front of out.
+#[tactic(auto, using(c_answer::proofs::AnswersLaws::answered_out), unfolding(crate::specs::Settlement::update_call, crate::specs::Settlement::written_call, c_answer::specs::Answers::call))]
 pub fn fiber_settlement_update(h: u64, w: &[u8], out: &mut [u8], answer: &mut [u8]) -> u64
     ensures { Leaves (S.update_call h w.now out.old answer.old) result out.new answer.new }
 {

@@ -1,127 +1,100 @@
--- Laws of `specs/Lines.antt`: each definition by its tests, and a turn of each loop as "the rest from here".
+-- Laws of `specs/Lines.antt`: each definition as the library's word for what an iterator chain gives.
 -- Assumes nothing.
-use Rattle.fiber_bytes.proofs.BytesLaws.{one_less, sets_out}
-use Rattle.std.proofs.Common.{◌≡◌, ℕ, ◌+◌, ◌-◌, ◌*◌, ◌/◌, ◌%◌, ◌^◌, ◌<◌, ◌≤◌, Bool, true, false, List, length, get_or, drop, set, sym, ap, ◌∙◌, ap₂, add-one, arith, drop_of_length-le, drop-cons, le-ltb, lt-ltb, eq-eqb, ne_eqb, le-leb}
-use native.Mathlib.Nat.{sub-zero, add-mod}
-use lib.Seq.{sets}
-use borrow.Author.Tests.{lt-leb}
+use Rattle.std.proofs.Common.{◌≡◌, ℕ, zero, suc, ◌+◌, ◌-◌, ◌*◌, ◌/◌, ◌%◌, ◌^◌, ◌<◌, ◌≤◌, Bool, true, false, cond, not, Option, ◌==◌, ◌||◌, ◌≢◌, eq-eqb, ne_eqb, List, [], ◌∷◌, length, map, get_or, drop, set, refl, sym, ap, ◌∙◌, add-one, inl, inr, min, length-drop, take_all, arith, drop_of_length-le, drop-cons}
+use Rattle.std.proofs.lemmas.Bool.Decides.{same_from_decides, Decides-eqb, Decides-and, Decides-like}
+use Rattle.std.specs.Bool.{Decides}
+use Rattle.std.specs.List.{fold, position_or_len, range_with_len, AllWithin, HoldsAt, slice_range}
+use Rattle.std.specs.Option.{MatchOption, unwrap_or}
+use Rattle.std.proofs.lemmas.Iterator.{index_from_first}
+use Rattle.std.proofs.Math.Seq.{sets, set_out}
+use Rattle.std.proofs.lemmas.Bool.{cases_lt}
 use Rattle.test_lines.specs.Lines.{digit, hex_at, hex_bytes, holds, agree, number_from, find_in}
 
-none_left : (n i : ℕ) → n ≤ i → n - i ≡ 0
-none_left n i h = omega arith
+-- ---- hexadecimal
 
--- ---- digits
+module _ (s : List ℕ) where
+  pub hex_bytes_is : (n i : ℕ) → map (λ k. hex_at s (2 * k)) (range_with_len i n) ≡ hex_bytes n s i
+  unfolding hex_bytes
+  hex_bytes_is zero i = refl
+  hex_bytes_is (suc n) i = ap (λ bs. hex_at s (2 * i) ∷ bs) (hex_bytes_is n (i + 1))
 
-module _ (b : ℕ) where
-  pub below_0 : b < 48 → 0 ≡ digit b
-  unfolding digit
-  below_0 h = rw (lt-ltb b 48 h)
+  -- whether the n bytes from the i-th on are those in hexadecimal
+  holds_decides : (bytes : List ℕ) (n i : ℕ) → Decides (holds n bytes s i) ((k : ℕ) → i ≤ k → k < i + n → get_or bytes k 0 ≡ hex_at s (2 * k))
+  unfolding holds
+  holds_decides bytes zero i = (λ _ k l h. absurd (omega arith), λ _. refl)
+  holds_decides bytes (suc n) i =
+      Decides-like _
+      (λ h k l u. elim (cases_lt i k) [ inl g ↦ h.1 k (omega arith) (omega arith) | inr g ↦ let e : i ≡ k = omega arith in rw (← e) h.0 ])
+      (λ h. (h i (omega arith) (omega arith), λ k l u. h k (omega arith) (omega arith)))
+      (Decides-and _ _ (Decides-eqb (get_or bytes i 0) (hex_at s (2 * i))) (holds_decides bytes n (i + 1)))
 
-  module _ (h : 48 ≤ b) where
-    pub decimal : b ≤ 57 → b - 48 ≡ digit b
-    unfolding digit
-    decimal g = rw (le-ltb b 48 h, le-leb b 57 g)
+  pub agree_is : (bytes : List ℕ) (r : Bool) → length s / 2 ≡ length bytes → Decides r ((k : ℕ) → k < length bytes → get_or bytes k 0 ≡ hex_at s (2 * k)) → r ≡ agree bytes s
+  unfolding agree
+  agree_is bytes r e h =
+      rw (eq-eqb (length s / 2) (length bytes) e)
+      (same_from_decides r (holds (length bytes) bytes s 0)
+      (Decides-like r (λ f k _ u. f k (omega arith)) (λ f k u. f k (omega arith) (omega arith)) h)
+      (holds_decides bytes (length bytes) 0))
 
-    module _ (g : 57 < b) where
-      pub between : b < 97 → 0 ≡ digit b
-      unfolding digit
-      between f = rw (le-ltb b 48 h, lt-leb b 57 g, lt-ltb b 97 f)
+  pub agree_not : (bytes : List ℕ) → (length s / 2 ≢ length bytes) → false ≡ agree bytes s
+  unfolding agree
+  agree_not bytes h = rw (ne_eqb (length s / 2) (length bytes) h)
 
-      module _ (f : 97 ≤ b) where
-        pub letter : b ≤ 102 → b - 97 + 10 ≡ digit b
-        unfolding digit
-        letter e = rw (le-ltb b 48 h, lt-leb b 57 g, le-ltb b 97 f, le-leb b 102 e)
-
-        pub above_f : 102 < b → 0 ≡ digit b
-        unfolding digit
-        above_f e = rw (le-ltb b 48 h, lt-leb b 57 g, le-ltb b 97 f, lt-leb b 102 e)
-
-module _ (s : List ℕ) (i : ℕ) where
-  pub hex_none : length s < i + 2 → 0 ≡ hex_at s i
-  unfolding hex_at
-  hex_none h = rw (lt-leb (i + 2) (length s) h)
-
-  pub hex_two : i + 2 ≤ length s → (a b : ℕ) → a ≡ digit (get_or s i 0) → b ≡ digit (get_or s (i + 1) 0) → a * 16 + b ≡ hex_at s i
-  unfolding hex_at
-  hex_two h a b e f = rw (le-leb (i + 2) (length s) h, e, f)
-
--- ---- loops
+sets_out : (vs l : List ℕ) (i : ℕ) → length l ≤ i → sets l i vs ≡ l
+sets_out [] l i h = refl
+sets_out (v ∷ vs) l i h = rw (set_out l i v h) (sets_out vs l (suc i) (omega arith))
 
 module _ (s out : List ℕ) (n i : ℕ) where
-  pub unhex_more : i < n → (x : ℕ) → x ≡ hex_at s (2 * i) → sets (set out i x) (i + 1) (hex_bytes (n - (i + 1)) s (i + 1)) ≡ sets out i (hex_bytes (n - i) s i)
+  pub unhex_more : i < n → (p x : ℕ) → p ≡ 2 * i → x ≡ hex_at s p → sets (set out i x) (i + 1) (hex_bytes (n - (i + 1)) s (i + 1)) ≡ sets out i (hex_bytes (n - i) s i)
   unfolding hex_bytes
-  unhex_more h x e = rw (one_less n i h, e, add-one i)
+  unhex_more h p x q e =
+      let less : n - i ≡ suc (n - (i + 1)) = omega arith in
+      rw (less, e, q, add-one i)
 
-  pub unhex_full : length out ≤ i → out ≡ sets out i (hex_bytes (n - i) s i)
-  unhex_full h = sym (sets_out (hex_bytes (n - i) s i) out i h)
-
-  pub unhex_end : n ≤ i → out ≡ sets out i (hex_bytes (n - i) s i)
+  pub unhex_end : i ≡ min n (length out) → out ≡ sets out i (hex_bytes (n - i) s i)
   unfolding hex_bytes
-  unhex_end h = rw (none_left n i h)
+  unhex_end h =
+      elim (cases_lt n (length out)) [ inl g ↦ let none : n - i ≡ 0 = omega arith in rw none | inr g ↦ sym (sets_out (hex_bytes (n - i) s i) out i (omega arith)) ]
 
-module _ (bytes s : List ℕ) where
-  pub agree_length : (length s / 2 ≡ length bytes → ⊥) → false ≡ agree bytes s
-  unfolding agree
-  agree_length h = rw (ne_eqb (length s / 2) (length bytes) h)
+-- ---- numbers and places
 
-  pub agree_start : length s / 2 ≡ length bytes → holds (length bytes - 0) bytes s 0 ≡ agree bytes s
-  unfolding agree
-  agree_start h = rw (eq-eqb (length s / 2) (length bytes) h, sub-zero (length bytes))
-
-  module _ (n i : ℕ) (r : Bool) (e : holds (n - i) bytes s i ≡ r) where
-    pub holds_end : n ≤ i → true ≡ r
-    unfolding holds
-    holds_end h = ap (λ (k : ℕ). holds k bytes s i) (sym (none_left n i h)) ∙ e
-
-    module _ (h : i < n) (x : ℕ) (f : x ≡ hex_at s (2 * i)) where
-      pub holds_not : (get_or bytes i 0 ≡ x → ⊥) → false ≡ r
-      unfolding holds
-      holds_not g = rw (one_less n i h, ← f, ne_eqb (get_or bytes i 0) x g) at e
-
-      pub holds_more : get_or bytes i 0 ≡ x → holds (n - (i + 1)) bytes s (i + 1) ≡ r
-      unfolding holds
-      holds_more g = rw (one_less n i h, ← f, eq-eqb (get_or bytes i 0) x g) at e
-
-module _ (s : List ℕ) (i x : ℕ) where
-  pub number_more : i < length s → (d y : ℕ) → d ≡ digit (get_or s i 0) → y ≡ (10 * x + d) % 2 ^ 64 → number_from y (drop (i + 1) s) ≡ number_from x (drop i s)
-  unfolding number_from
-  number_more h d y e f = rw (drop-cons s i 0 h, add-one i, f, e)
-
-  pub number_end : length s ≤ i → x ≡ number_from x (drop i s)
-  unfolding number_from
-  number_end h = rw (drop_of_length-le s h)
-
-wrapped : (m n p q r : ℕ) → p ≡ m % 2 ^ 64 → q ≡ n % 2 ^ 64 → r ≡ (p + q) % 2 ^ 64 → r ≡ (m + n) % 2 ^ 64
-wrapped m n p q r e f g = g ∙ ap₂ (λ (a b : ℕ). (a + b) % 2 ^ 64) e f ∙ sym (add-mod m n (2 ^ 64))
-
-pub ten : (x d a b c e r : ℕ) → x < 2 ^ 64 → d < 2 ^ 64 → a ≡ (x + x) % 2 ^ 64 → b ≡ (a + a) % 2 ^ 64 → c ≡ (b + b) % 2 ^ 64 → e ≡ (c + a) % 2 ^ 64
-    → r ≡ (e + d) % 2 ^ 64 → r ≡ (10 * x + d) % 2 ^ 64
-ten x d a b c e r hx hd p q s t u =
-    let x₁ : x ≡ x % 2 ^ 64 = omega arith in
-    let d₁ : d ≡ d % 2 ^ 64 = omega arith in
-    let b₁ = wrapped (x + x) (x + x) a a b p p q in
-    let c₁ = wrapped (x + x + (x + x)) (x + x + (x + x)) b b c b₁ b₁ s in
-    let e₁ = wrapped (x + x + (x + x) + (x + x + (x + x))) (x + x) c a e c₁ p t in
-    wrapped (x + x + (x + x) + (x + x + (x + x)) + (x + x)) d e d r e₁ d₁ u
-    ∙ ap (λ (k : ℕ). (k + d) % 2 ^ 64) (ten_times x)
+pub number_is : (x : ℕ) (s : List ℕ) → fold (λ y b. (y * 10 % 2 ^ 64 + digit b) % 2 ^ 64) x s ≡ number_from x s
+unfolding number_from
+number_is x [] = refl
+number_is x (b ∷ s) = number_is ((x * 10 % 2 ^ 64 + digit b) % 2 ^ 64) s ∙ ap (λ y. number_from y s) (wrapped x (digit b))
   where
-    ten_times : (x : ℕ) → x + x + (x + x) + (x + x + (x + x)) + (x + x) ≡ 10 * x
-    ten_times x = omega arith
+    wrapped : (x d : ℕ) → (x * 10 % 2 ^ 64 + d) % 2 ^ 64 ≡ (10 * x + d) % 2 ^ 64
+    wrapped x d = omega arith
 
-module _ (s : List ℕ) (b i r : ℕ) (e : find_in (length s - i) s i b ≡ r) where
-  pub find_end : length s ≤ i → i ≡ r
+-- what `get` gives from a place on
+pub rest_is : (s rest : List ℕ) (from at : ℕ) → from ≡ at → rest ≡ slice_range s from (length s) → rest ≡ drop at s
+rest_is s rest from at e h = h ∙ take_all (length s - from) (drop from s) (omega (arith, length-drop {A = ℕ})) ∙ ap (λ i. drop i s) e
+
+-- how many bytes stand before the first that is b or ends the line
+pub before : ℕ → List ℕ → ℕ
+before b = position_or_len (λ x. x == b || x == 10)
+
+module _ (b : ℕ) where
+  abbrev pub Ends : Bool → ℕ → Type 0
+  Ends t x = (x == b || x == 10) ≡ t
+
+  pub before_is : (r : Option ℕ) (s : List ℕ)
+      → MatchOption r (AllWithin (Ends false) s 0 (length s)) (λ i. (i < length s) × HoldsAt (Ends true) s i × AllWithin (Ends false) s 0 i)
+      → before b s ≡ unwrap_or r (length s)
+  unfolding before
+  before_is r s h = index_from_first (before b) (Ends true) (Ends false) refl (λ x xs e. rw e) (λ x xs e. rw e (omega arith)) s r h
+
+  pub find_is : (s : List ℕ) (n at : ℕ) → n + at ≡ length s → at + before b (drop at s) ≡ find_in n s at b
+  unfolding find_in before
+  find_is s zero at e = rw (drop_of_length-le s {i = at} (omega arith)) (omega arith)
+  find_is s (suc n) at e =
+      let rest = rw add-one at (find_is s n (at + 1) (omega arith)) in
+      rw (add-one, drop-cons s at 0 (omega arith), ← rest) (by_test (get_or s at 0 == b || get_or s at 0 == 10) (before b (drop (suc at) s)))
+    where
+      by_test : (t : Bool) (k : ℕ) → at + cond (not t) (1 + k) 0 ≡ cond t at (suc at + k)
+      by_test true k = omega arith
+      by_test false k = omega arith
+
+  pub find_past : (s : List ℕ) (at : ℕ) → length s ≤ at → at ≡ find_in (length s - at) s at b
   unfolding find_in
-  find_end h = ap (λ (k : ℕ). find_in k s i b) (sym (none_left (length s) i h)) ∙ e
-
-  module _ (h : i < length s) where
-    pub find_here : get_or s i 0 ≡ b → i ≡ r
-    unfolding find_in
-    find_here g = rw (one_less (length s) i h, eq-eqb (get_or s i 0) b g) at e
-
-    pub find_line : (get_or s i 0 ≡ b → ⊥) → get_or s i 0 ≡ 10 → i ≡ r
-    unfolding find_in
-    find_line f g = rw (one_less (length s) i h, ne_eqb (get_or s i 0) b f, eq-eqb (get_or s i 0) 10 g) at e
-
-    pub find_on : (get_or s i 0 ≡ b → ⊥) → (get_or s i 0 ≡ 10 → ⊥) → find_in (length s - (i + 1)) s (i + 1) b ≡ r
-    unfolding find_in
-    find_on f g = rw (one_less (length s) i h, ne_eqb (get_or s i 0) b f, ne_eqb (get_or s i 0) 10 g) at e
+  find_past s at h = let none : length s - at ≡ 0 = omega arith in rw none

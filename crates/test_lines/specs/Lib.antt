@@ -1,2 +1,3 @@
 -- What the reading of test lists means.
 pub mod Lines
+pub mod Fields

@@ -3,7 +3,7 @@ use Prim.Native.Nat.{ℕ}
 use mathlib.Core.Path.{◌≡◌}
 use mathlib.Core.Bool.{true}
 use Rattle.fiber_since.proofs.EdgesLaws.{one_third, two_thirds_lem, due_then, not_due_before, five_seconds, last_second, second_more}
-use Rattle.fiber_types.specs.Records.{valid_hash_len}
+use Rattle.fiber_types.specs.HashLen.{valid_hash_len}
 use Rattle.fiber_types.proofs.RecordsLaws.{hash_len_20, hash_len_32}
 use Rattle.fiber_witness.proofs.EdgesLaws.{reads_74, refuses_73}
 use Rattle.watchtower.specs.Edges.{edges, Hold, Edges}

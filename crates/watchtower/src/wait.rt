@@ -5,6 +5,7 @@ ghost use Rattle.fiber_choice.specs.Waits as S;
 use fiber_choice::kinds::{Cause, Wait};
 
 // Row 23, 24 or 25.
+#[tactic(auto, unfolding(fiber_choice::specs::Waits::cause_number))]
 fn cause_number(cause: Cause) -> usize
     ensures { result ≡ S.cause_number cause }
 {
@@ -18,6 +19,7 @@ fn cause_number(cause: Cause) -> usize
 }
 
 // The number of its row.
+#[tactic(auto, unfolding(fiber_choice::specs::Waits::wait_number))]
 pub fn number(wait: Wait) -> usize
     ensures { result ≡ S.wait_number wait }
 {
@@ -30,6 +32,7 @@ pub fn number(wait: Wait) -> usize
 }
 
 // The TLC's place; 0 where it is not for a TLC.
+#[tactic(auto, unfolding(fiber_choice::specs::Waits::wait_place))]
 pub fn place(wait: Wait) -> usize
     ensures { result ≡ S.wait_place wait }
 {

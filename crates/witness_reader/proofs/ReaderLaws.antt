@@ -1,100 +1,78 @@
--- Laws of `specs/Reader.antt` and `specs/inner/Front.antt`: each case of a definition from the facts that pick it, what two takes mean for an unlock and three
--- for a witness, and the loop over the unlocks.
+-- Laws of `specs/Reader.antt`, what two takes mean for an unlock, and the loop over the unlocks.
 -- Assumes nothing.
 use Prim.Native.Nat.{ℕ, suc, ◌+◌, ◌-◌, ◌*◌, ◌/◌, ◌≤◌, ◌<◌}
 use native.Mathlib.Omega.{arith}
 use mathlib.Core.Path.{◌≡◌, refl, ap, sym, ◌∙◌}
 use mathlib.Core.Bool.{Bool, true, false, cond}
-use mathlib.Core.List.{List, []}
+use mathlib.Core.List.{List}
 use mathlib.Core.Logic.{⊎_elim}
-use lib.Dec.{leb, eqb, lit<}
-use lib.ListN.{length, get_or, take, drop, length-drop, get_or-eq_default}
-use lib.Seq.{take_all, get_or-take, get_or-drop, drop-drop}
-use borrow.Author.Tests.{le-leb, lt-leb, leb-true, leb-false, ne_eqb}
+use lib.Dec.{eqb, lit<}
+use lib.ListN.{length, get_or, take, drop, length-take, length-drop}
+use lib.Seq.{get_or-take, get_or-drop, drop-drop}
+use borrow.Author.Tests.{le-leb, lt-leb}
+use Rattle.std.specs.Prelude.{Option, Some, None, Result, Err}
+use Rattle.std.specs.Option.{ok_or}
+use Rattle.fiber_refusal.specs.declared.Refusal.{Refusal}
 use Rattle.fiber_bytes.proofs.BytesLaws.{either}
-use Rattle.fiber_types.specs.Records.{valid_hash_len, witness_len}
-use Rattle.fiber_types.proofs.RecordsLaws.{hash_len_small}
-use Rattle.fiber_witness.specs.declared.witness.WitnessRead.TheVariants.{Whole, Refused}
-use Rattle.fiber_witness.specs.Witness.{record_len, unlock_len, places, read_unlocks, read_tlcs, read_witness}
+use Rattle.fiber_refusal.specs.declared.Refusal.TheVariants.{TlcCut, SharesCut, UnlockCut}
+use Rattle.fiber_types.specs.HashLen.{valid_hash_len}
+use Rattle.fiber_types.specs.Records.{witness_len}
+use Rattle.fiber_witness.specs.Witness.{record_len, unlock_len, places, read_unlocks, read_tlcs, read_witness, whole, cut_at}
 use Rattle.fiber_witness.specs.inner.Strided.{behind_tlcs}
-use Rattle.fiber_witness.proofs.WitnessLaws.{unlock_long, places_cons, cut_passed, cut_short, Reading, reading_start, reading_end, share_small, whole_cut, shares_cut, shares_whole, witness_short, witness_tlcs}
+use Rattle.fiber_witness.proofs.WitnessLaws.{unlock_long, places_cons, cut_passed, cut_short, Reading, reading_start, reading_end, whole_cut, shares_cut, shares_whole, witness_tlcs}
 use Rattle.witness_reader.specs.Reader.{taken, left}
-use Rattle.witness_reader.specs.inner.Front.{tlcs_len, preimage_len, Front}
 
 -- ---- what is taken and left
 
+-- nothing, or n bytes and those behind them
 module _ (s : List ℕ) (n : ℕ) where
-  pub taken_enough : n ≤ length s → take n s ≡ taken s n
+  pub takes_none : length s < n → taken s n ≡ None
   unfolding taken
-  taken_enough h = rw (le-leb n (length s) h)
+  takes_none h = rw (lt-leb n (length s) h)
 
-  pub taken_short : length s < n → [] ≡ taken s n
-  unfolding taken
-  taken_short h = rw (lt-leb n (length s) h)
+  pub takes : n ≤ length s → (taken s n ≡ Some (take n s)) × (left s n ≡ drop n s)
+  unfolding taken left
+  takes h = (rw (le-leb n (length s) h), rw (le-leb n (length s) h))
 
-  pub left_drop : n ≤ length s → left s n ≡ drop n s
-  unfolding left
-  left_drop h = rw (le-leb n (length s) h)
+  -- and so the other way around
+  pub none_taken : taken s n ≡ None → length s < n
+  none_taken e = ⊎_elim
+      (λ h. let z : ◌≡◌ {A = Option (List ℕ)} (Some (take n s)) None = sym (takes h).0 ∙ e in absurd (let y : ◌≡◌ {A = ℕ} 0 1 = cc in omega arith))
+      (λ h. h)
+      (either n (length s))
 
-  -- what may have as many bytes as all of s goes to its end
-  pub left_enough : n ≤ length s → take (length s) (drop n s) ≡ left s n
-  left_enough h = take_all (length s) (drop n s) (omega (arith, length-drop n s)) ∙ sym (left_drop h)
-
-  pub left_short : length s < n → s ≡ left s n
-  unfolding left
-  left_short h = rw (lt-leb n (length s) h)
-
-  pub left_length : n ≤ length s → length (left s n) ≡ length s - n
-  left_length h = ap length (left_drop h) ∙ length-drop n s
-
--- a byte of what is taken is one of all
-pub taken_at : (s : List ℕ) (n i : ℕ) → n ≤ length s → i < n → get_or (taken s n) i 0 ≡ get_or s i 0
-unfolding taken
-taken_at s n i h g = rw (le-leb n (length s) h) (get_or-take n s i 0 g)
+  pub some_taken : (part rest : List ℕ) → (taken s n ≡ Some part) × (left s n ≡ rest) → (n ≤ length s) × (part ≡ take n s) × (rest ≡ drop n s)
+  some_taken part rest e = ⊎_elim
+      (λ h. (h, (let z : ◌≡◌ {A = Option (List ℕ)} (Some (take n s)) (Some part) = sym (takes h).0 ∙ e.0 in cc), sym e.1 ∙ (takes h).1))
+      (λ h. let z : ◌≡◌ {A = Option (List ℕ)} None (Some part) = sym (takes_none h) ∙ e.0 in absurd (let y : ◌≡◌ {A = ℕ} 0 1 = cc in omega arith))
+      (either n (length s))
 
 -- ---- an unlock, taken in two parts
 
-module _ (u : List ℕ) where
-  pub preimage_short : length u < 2 → 0 ≡ preimage_len u
-  unfolding preimage_len
-  preimage_short h = rw (get_or-eq_default u 0 {n = 1} (omega arith))
-
-  pub preimage_there : get_or u 1 0 ≡ 1 → 32 ≡ preimage_len u
-  unfolding preimage_len
-  preimage_there e = rw e
-
-  pub preimage_none : (get_or u 1 0 ≡ 1 → ⊥) → 0 ≡ preimage_len u
-  unfolding preimage_len
-  preimage_none f = rw (ne_eqb (get_or u 1 0) 1 f)
-
-module _ (s : List ℕ) (h : 67 ≤ length s) where
-  -- the second part is there exactly if all of the unlock is
-  second : (flag : Bool) → cond (leb (cond flag 32 0) (length (left s 67))) (left (left s 67) (cond flag 32 0)) s ≡ left s (witness_len flag)
-  second false = rw (le-leb 0 (length (left s 67)) (omega arith)) (left_drop (left s 67) 0 (omega arith))
-  second true = ⊎_elim
-      (λ g. let m : 32 ≤ length (left s 67) = omega (arith, left_length s 67 h) in
-      rw (le-leb 32 (length (left s 67)) m) (left_drop (left s 67) 32 m ∙ (ap (drop 32) (left_drop s 67 h) ∙ (drop-drop 32 67 s ∙ sym (left_drop s 99 g)))))
-      (λ g. let m : length (left s 67) < 32 = omega (arith, left_length s 67 h) in
-      rw (lt-leb 32 (length (left s 67)) m) (left_short s 99 g))
-      (either 99 (length s))
-
+module _ (s part rest : List ℕ) (k : ℕ) (first : (taken s 67 ≡ Some part) × (left s 67 ≡ rest)) (e : k ≡ cond (eqb (get_or part 1 0) 1) 32 0) where
   -- the flag is one of the first part's bytes
-  flag_taken : preimage_len (taken s 67) ≡ cond (eqb (get_or s 1 0) 1) 32 0
-  unfolding preimage_len
-  flag_taken = rw (taken_at s 67 1 h (lit< tt))
+  unlock_is : unlock_len s 0 ≡ 67 + k
+  unlock_is =
+      let p = some_taken s 67 part rest first in
+      let f : get_or part 1 0 ≡ get_or s 1 0 = ap (λ (l : List ℕ). get_or l 1 0) p.1 ∙ get_or-take 67 s 1 0 (lit< tt) in
+      sized (eqb (get_or s 1 0) 1) (e ∙ ap (λ (b : ℕ). cond (eqb b 1) 32 0) f)
+    where
+      sized : (flag : Bool) → k ≡ cond flag 32 0 → witness_len flag ≡ 67 + k
+      sized true e = omega (arith, e)
+      sized false e = omega (arith, e)
 
-unlock_two : (s : List ℕ) → cond (leb 67 (length s))
-    (cond (leb (preimage_len (taken s 67)) (length (left s 67))) (left (left s 67) (preimage_len (taken s 67))) s) s ≡ left s (unlock_len s 0)
-unlock_two s = ⊎_elim
-    (λ h. rw (le-leb 67 (length s) h, flag_taken s h) (second s h (eqb (get_or s 1 0) 1)))
-    (λ h. rw (lt-leb 67 (length s) h) (left_short s (unlock_len s 0) (omega (arith, unlock_long s 0))))
-    (either 67 (length s))
+  pub unlock_short : taken rest k ≡ None → length s < unlock_len s 0
+  unlock_short g =
+      let p = some_taken s 67 part rest first in
+      omega (arith, none_taken rest k g, ap length p.2, length-drop 67 s, p.0, unlock_is)
 
--- two takes, each known by what it says
-pub unlock_taken : (s part middle rest r : List ℕ) (n : ℕ) (first second : Bool)
-    → first ≡ leb 67 (length s) → part ≡ taken s 67 → middle ≡ left s 67 → n ≡ preimage_len part
-    → second ≡ leb n (length middle) → rest ≡ left middle n → r ≡ cond first (cond second rest s) s → r ≡ left s (unlock_len s 0)
-unlock_taken s part middle rest r n first second e₁ e₂ e₃ e₄ e₅ e₆ e₇ = cc (unlock_two s)
+  pub unlock_whole : (preimage t : List ℕ) → (taken rest k ≡ Some preimage) × (left rest k ≡ t) → (unlock_len s 0 ≤ length s) × (t ≡ drop (unlock_len s 0) s)
+  unlock_whole preimage t g =
+      let p = some_taken s 67 part rest first in
+      let q = some_taken rest k preimage t g in (
+        omega (arith, q.0, ap length p.2, length-drop 67 s, p.0, unlock_is),
+        q.2 ∙ (ap (drop k) p.2 ∙ (drop-drop k 67 s ∙ ap (λ (i : ℕ). drop i s) (sym unlock_is))),
+      )
 
 -- ---- the loop over the unlocks: k of them are before place at, where what is left begins
 
@@ -115,126 +93,104 @@ module _ (w s : List ℕ) (n share_place k : ℕ) (c : Rest w s n share_place k)
   rest_few = omega (arith, rest_at, c.reading.few)
 
   -- nothing is left
-  pub rest_end : length s ≡ 0 → Whole n k share_place (share_place + 72) ≡ read_unlocks w n share_place
+  pub rest_end : length s ≡ 0 → whole n k share_place (share_place + 72) ≡ read_unlocks w n share_place
   rest_end e = reading_end w n share_place c.at k c.reading (omega (arith, rest_at))
 
   -- the unlock is the one at that place
   rest_unlock : unlock_len s 0 ≡ unlock_len w c.at
   rest_unlock = ap (λ (l : List ℕ). unlock_len l 0) c.is ∙ ap (λ (b : ℕ). witness_len (eqb b 1)) (get_or-drop c.at w 1 0)
 
-  module _ (t : List ℕ) (e : t ≡ left s (unlock_len s 0)) (g : length s ≡ 0 → ⊥) where
-    -- it is cut short exactly if nothing was taken
-    rest_whole : (length t ≡ length s → ⊥) → unlock_len s 0 ≤ length s
-    rest_whole f = ⊎_elim (λ h. h) (λ h. absurd (f (ap length (e ∙ sym (left_short s (unlock_len s 0) h))))) (either (unlock_len s 0) (length s))
-
-    rest_short : length t ≡ length s → length s < unlock_len s 0
-    rest_short f = ⊎_elim
-        (λ h. absurd (omega (arith, f, ap length e ∙ left_length s (unlock_len s 0) h, unlock_long s 0)))
-        (λ h. h)
-        (either (unlock_len s 0) (length s))
-
-    pub rest_cut : length t ≡ length s → Refused 4 (length w - length s) ≡ read_unlocks w n share_place
+  module _ (g : length s ≡ 0 → ⊥) where
+    -- it is cut short
+    pub rest_cut : length s < unlock_len s 0 → Err (UnlockCut (length w - length s)) ≡ read_unlocks w n share_place
     rest_cut f =
         let p : length w - length s ≡ c.at = omega (arith, rest_at) in
         let b : c.at < length w = omega (arith, rest_at) in
-        let l : length w < c.at + unlock_len w c.at = omega (arith, rest_at, rest_short f, rest_unlock) in
-        rw p (rw (places_cons w c.at b, cut_short w (Refused 4) _ c.at (places w (c.at + unlock_len w c.at)) l) at c.reading.rest)
+        let l : length w < c.at + unlock_len w c.at = omega (arith, rest_at, f, rest_unlock) in
+        rw p (rw (places_cons w c.at b, cut_short w cut_at _ c.at (places w (c.at + unlock_len w c.at)) l) at c.reading.rest)
 
-    pub rest_less : (length t ≡ length s → ⊥) → length t < length s
-    rest_less f = omega (arith, ap length e ∙ left_length s (unlock_len s 0) (rest_whole f), unlock_long s 0, rest_whole f)
-
-    pub rest_more : (length t ≡ length s → ⊥) → Rest w t n share_place (k + 1)
-    rest_more f =
+    -- it is passed
+    pub rest_more : (t : List ℕ) → (unlock_len s 0 ≤ length s) × (t ≡ drop (unlock_len s 0) s) → Rest w t n share_place (k + 1)
+    rest_more t e =
         let u = unlock_len w c.at in
-        let h = rest_whole f in
         let b : c.at < length w = omega (arith, rest_at) in
-        let l : c.at + u ≤ length w = omega (arith, rest_at, h, rest_unlock) in
+        let l : c.at + u ≤ length w = omega (arith, rest_at, e.0, rest_unlock) in
         let m : k + suc (length (places w (c.at + u))) ≡ k + 1 + length (places w (c.at + u)) = omega arith in
         record {
           at = c.at + u;
-          is = e ∙ (left_drop s (unlock_len s 0) h ∙ (ap (drop (unlock_len s 0)) c.is ∙ (drop-drop (unlock_len s 0) c.at w
-              ∙ ap (λ (i : ℕ). drop (c.at + i) w) rest_unlock)));
+          is = e.1 ∙ (ap (drop (unlock_len s 0)) c.is ∙ (drop-drop (unlock_len s 0) c.at w ∙ ap (λ (i : ℕ). drop (c.at + i) w) rest_unlock));
           reading = record {
             few = omega (arith, c.reading.few, unlock_long w c.at);
             room = l;
-            rest = rw (places_cons w c.at b, cut_passed w (Refused 4) _ c.at (places w (c.at + u)) l, m) at c.reading.rest;
+            rest = rw (places_cons w c.at b, cut_passed w cut_at _ c.at (places w (c.at + u)) l, m) at c.reading.rest;
           };
         }
 
--- ---- three takes of a witness
+-- what is left falls
+pub rest_less : (s t : List ℕ) → (unlock_len s 0 ≤ length s) × (t ≡ drop (unlock_len s 0) s) → length t < length s
+rest_less s t e = omega (arith, ap length e.1 ∙ length-drop (unlock_len s 0) s, e.0, unlock_long s 0)
 
-module _ (h : ℕ) (counts : List ℕ) where
-  pub len_unknown : valid_hash_len h ≡ false → 0 ≡ tlcs_len h counts
-  unfolding tlcs_len
-  len_unknown e = rw e
+-- ---- a witness, taken in three parts: two counts, the TLCs, two shares
 
-  pub len_known : (n : ℕ) → valid_hash_len h ≡ true → n ≡ get_or counts 1 0 → n * record_len h ≡ tlcs_len h counts
-  unfolding tlcs_len
-  len_known n e f = rw (e, f)
+module _ (h size : ℕ) (w counts tlcs : List ℕ) (k : valid_hash_len h ≡ true) (e : size ≡ record_len h) (first : (taken w 2 ≡ Some counts) × (left w 2 ≡ tlcs)) where
+  abbrev n : ℕ
+  n = get_or counts 1 0
 
--- so many bytes have a length
-pub len_small : (h n : ℕ) → valid_hash_len h ≡ true → n < 256 → n * record_len h ≤ 255 * 97
-len_small h n e f = share_small h [] n (omega arith) (hash_len_small h e)
+  -- the TLCs' bytes, and the place behind them
+  bytes_lem : n * size ≡ n * record_len h
+  bytes_lem = ap (λ (m : ℕ). n * m) e
 
-module _ (h : ℕ) (w : List ℕ) (counted listed shared : Bool) (counts rest : List ℕ) (f : Front h w counted listed shared counts rest) (k : valid_hash_len h ≡ true) where
-  pub front_short : counted ≡ false → Refused 1 (length w) ≡ read_witness h w
-  front_short c = witness_short h w k (leb-false 2 (length w) (sym f.counted_is ∙ c))
+  tlcs_length : length w - 2 ≡ length tlcs
+  tlcs_length =
+      let p = some_taken w 2 counts tlcs first in
+      sym (length-drop 2 w) ∙ ap length (sym p.2)
 
-  module _ (c : counted ≡ true) where
-    pub front_two : 2 ≤ length w
-    front_two = leb-true 2 (length w) (sym f.counted_is ∙ c)
+  -- the count is one of the first two bytes
+  pub counts_there : 1 < length counts
+  counts_there =
+      let p = some_taken w 2 counts tlcs first in
+      omega (arith, ap length p.1, length-take 2 w, p.0)
 
-    -- the TLC count is one of the witness's bytes
-    count_is : get_or counts 1 0 ≡ get_or w 1 0
-    count_is = ap (λ (l : List ℕ). get_or l 1 0) f.counts_are ∙ taken_at w 2 1 front_two (lit< tt)
+  to_witness : read_tlcs n h w n 2 ≡ read_witness h w
+  to_witness =
+      let p = some_taken w 2 counts tlcs first in
+      let f : n ≡ get_or w 1 0 = ap (λ (l : List ℕ). get_or l 1 0) p.1 ∙ get_or-take 2 w 1 0 (lit< tt) in
+      ap (λ (m : ℕ). read_tlcs m h w m 2) f ∙ witness_tlcs h w k p.0
 
-    len_is : tlcs_len h counts ≡ get_or w 1 0 * record_len h
-    len_is = sym (len_known h counts (get_or counts 1 0) k refl) ∙ ap (λ (n : ℕ). n * record_len h) count_is
+  pub read_cut : taken tlcs (n * size) ≡ None → Err (TlcCut (2 + (length tlcs / size) * size)) ≡ read_witness h w
+  read_cut g =
+      let p = some_taken w 2 counts tlcs first in
+      let f : length w < behind_tlcs h n = omega (arith, none_taken tlcs (n * size) g, tlcs_length, bytes_lem) in
+      rw (← tlcs_length, e) (whole_cut h w n ((length w - 2) / record_len h) refl p.0 f) ∙ to_witness
 
-    pub front_cut : (q : ℕ) → q ≡ (length w - 2) / record_len h → listed ≡ false → Refused 2 (2 + q * record_len h) ≡ read_witness h w
-    front_cut q e l =
-        let g = leb-false (tlcs_len h counts) (length (left w 2)) (sym f.listed_is ∙ l) in
-        whole_cut h w (get_or w 1 0) q e front_two (omega (arith, g, len_is, left_length w 2 front_two)) ∙ witness_tlcs h w k front_two
+  module _ (part shares : List ℕ) (second : (taken tlcs (n * size) ≡ Some part) × (left tlcs (n * size) ≡ shares)) where
+    room : behind_tlcs h n ≤ length w
+    room = omega (arith, (some_taken w 2 counts tlcs first).0, (some_taken tlcs (n * size) part shares second).0, tlcs_length, bytes_lem)
 
-    module _ (l : listed ≡ true) (n : ℕ) (e : n ≡ get_or counts 1 0) where
-      len_there : tlcs_len h counts ≤ length (left w 2)
-      len_there = leb-true (tlcs_len h counts) (length (left w 2)) (sym f.listed_is ∙ l)
+    shares_are : shares ≡ drop (2 + n * size) w
+    shares_are =
+        (some_taken tlcs (n * size) part shares second).2
+        ∙ (ap (drop (n * size)) (some_taken w 2 counts tlcs first).2 ∙ drop-drop (n * size) 2 w)
 
-      len_n : tlcs_len h counts ≡ n * record_len h
-      len_n = sym (len_known h counts n k e)
+    shares_length : length shares ≡ length w - behind_tlcs h n
+    shares_length = ap length shares_are ∙ (length-drop (2 + n * size) w ∙ ap (λ (m : ℕ). length w - (2 + m)) bytes_lem)
 
-      behind_tlcs_lem : length (left (left w 2) (tlcs_len h counts)) + behind_tlcs h n ≡ length w
-      behind_tlcs_lem = omega (arith, left_length (left w 2) (tlcs_len h counts) len_there, left_length w 2 front_two, len_n, len_there, front_two)
+    pub read_unshared : taken shares 72 ≡ None → Err (SharesCut (2 + n * size)) ≡ read_witness h w
+    read_unshared g = rw e (shares_cut h w n room (omega (arith, none_taken shares 72 g, shares_length, room))) ∙ to_witness
 
-      within_tlcs : behind_tlcs h n ≤ length w
-      within_tlcs = omega (arith, behind_tlcs_lem)
+    module _ (both unlocks : List ℕ) (third : (taken shares 72 ≡ Some both) × (left shares 72 ≡ unlocks)) where
+      shares_room : behind_tlcs h n + 72 ≤ length w
+      shares_room = omega (arith, (some_taken shares 72 both unlocks third).0, shares_length, room)
 
-      to_witness : read_tlcs n h w n 2 ≡ read_witness h w
-      to_witness = ap (λ (m : ℕ). read_tlcs m h w m 2) (e ∙ count_is) ∙ witness_tlcs h w k front_two
+      pub unlocks_are : (2 + n * size + 72 ≤ length w) × (unlocks ≡ drop (2 + n * size + 72) w)
+      unlocks_are = (
+        omega (arith, shares_room, bytes_lem),
+        (some_taken shares 72 both unlocks third).2 ∙ (ap (drop 72) shares_are ∙ drop-drop 72 (2 + n * size) w),
+      )
 
-      pub front_unshared : shared ≡ false → Refused 3 (behind_tlcs h n) ≡ read_witness h w
-      front_unshared g = shares_cut h w n within_tlcs (omega (arith, behind_tlcs_lem, leb-false 72 (length (left (left w 2) (tlcs_len h counts))) (sym f.shared_is ∙ g))) ∙ to_witness
+      pub read_whole : read_unlocks w n (2 + n * size) ≡ read_witness h w
+      read_whole = rw e (shares_whole h w n room shares_room) ∙ to_witness
 
-      module _ (g : shared ≡ true) where
-        shares_there : 72 ≤ length (left (left w 2) (tlcs_len h counts))
-        shares_there = leb-true 72 (length (left (left w 2) (tlcs_len h counts))) (sym f.shared_is ∙ g)
-
-        pub front_room : behind_tlcs h n + 72 ≤ length w
-        front_room = omega (arith, behind_tlcs_lem, shares_there)
-
-        pub front_rest : rest ≡ drop (behind_tlcs h n + 72) w
-        front_rest = f.rest_is ∙ (left_drop (left (left w 2) (tlcs_len h counts)) 72 shares_there ∙ (ap (drop 72) (left_drop (left w 2) (tlcs_len h counts) len_there
-            ∙ (ap (drop (tlcs_len h counts)) (left_drop w 2 front_two) ∙ (drop-drop (tlcs_len h counts) 2 w ∙ ap (λ (m : ℕ). drop (2 + m) w) len_n)))
-            ∙ drop-drop 72 (behind_tlcs h n) w))
-
-        pub front_whole : read_unlocks w n (behind_tlcs h n) ≡ read_witness h w
-        front_whole = shares_whole h w n within_tlcs front_room ∙ to_witness
-
--- the takes, each known by what it says
-pub front_taken : (h size : ℕ) (w counts behind shares rest : List ℕ) (counted listed shared : Bool)
-    → counted ≡ leb 2 (length w) → counts ≡ taken w 2 → behind ≡ left w 2
-    → size ≡ tlcs_len h counts
-    → listed ≡ leb size (length behind) → shares ≡ left behind size
-    → shared ≡ leb 72 (length shares) → rest ≡ left shares 72 → Front h w counted listed shared counts rest
-front_taken h size w counts behind shares rest counted listed shared e₁ e₂ e₃ e₄ e₅ e₆ e₇ e₈ =
-    record { counted_is = e₁; counts_are = e₂; listed_is = cc; shared_is = cc; rest_is = cc }
+-- why nothing was taken is the refusal that stands for it
+pub refused : {A : Type 0} (o : Option A) (r q : Refusal) → ◌≡◌ {A = Result A Refusal} (Err q) (ok_or o r) → o ≡ None → q ≡ r
+refused {A} o r q e f = let z : ◌≡◌ {A = Result A Refusal} (Err q) (Err r) = e ∙ ap (λ (x : Option A). ok_or x r) f in cc

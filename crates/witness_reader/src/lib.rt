@@ -1,57 +1,33 @@
-// The reference's `WitnessReader`: a struct that holds the rest of a witness, with `take` and `is_empty` alone, and `read` over it, which answers as
-// the cursor `watchtower::witness::read` does. Few functions carry the struct and none of them decides anything: what was taken goes to functions
-// on plain slices and numbers. A form beside the upper face, for whoever wants the reference's; no crate
-// of the core uses it, the program `forms` runs it. Uses the two faces and fiber_bytes.
+// The reference's `WitnessReader`: a struct that holds the rest of a witness, with `take` and `is_empty`, and `read` over it, which answers as the
+// cursor `watchtower::witness::read` does. A form beside the upper face, for whoever wants the reference's; no crate of the core uses it, the
+// program `forms` runs it. Uses the lower face and fiber_witness.
 #![tactic(auto)]
 
-ghost use Rattle.std.specs.Prelude.{◌≡◌, cond, leb, eqb, ◌+◌, ◌≤◌, ◌<◌, length, get_or, drop};
+ghost use Rattle.std.specs.Prelude.{◌≡◌, ◌+◌, ◌≤◌, ◌<◌, length, eqb, cond, get_or, drop, Some, None};
+ghost use Rattle.std.specs.Option.{MatchOption};
 ghost use Rattle.fiber_witness.specs.Witness.{unlock_len, read_unlocks, read_witness};
 ghost use Rattle.witness_reader.specs.Reader.{taken, left};
-ghost use Rattle.witness_reader.specs.inner.Front.{tlcs_len, preimage_len, Front};
 
-use fiber_bytes::part_of;
-use fiber_types::layout::{RECORD_FIXED, SHARES, UNLOCK};
-use fiber_types::tlc::valid_hash_len;
-use watchtower::witness::WitnessRead;
+use fiber_types::Refusal;
+use fiber_types::hash_len::HashLen;
+use fiber_types::layout::{SHARES, UNLOCK, UNLOCK_WITH_PREIMAGE};
+use fiber_witness::witness::WitnessLayout;
 
 #[derive(Clone, Copy)]
 pub struct WitnessReader<'a> {
     pub remaining: &'a [u8],
 }
 
-// What `take` gives: whether there were enough bytes, the bytes, and the reader of what is left.
-#[derive(Clone, Copy)]
-pub struct TakeAnswer<'a> {
-    pub enough: bool,
-    pub part: &'a [u8],
-    pub rest: WitnessReader<'a>,
-}
-
-// Whether s has n bytes.
-fn has(s: &[u8], n: usize) -> bool
-    ensures { result ≡ leb n (length s.now) }
+// The bytes of the preimage behind an unlock's first 67: 32 where the flag is 1.
+fn preimage_len(unlock: &[u8]) -> usize
+    requires { 2 ≤ length unlock.now }
+    ensures { result ≡ cond (eqb (get_or unlock.now 1 0) 1) 32 0 }
 {
-    n <= s.len()
-}
-
-// The first n bytes, or none where there are fewer.
-fn front_bytes(s: &[u8], n: usize) -> &[u8]
-    ensures { result.now ≡ taken s.now n }
-{
-    if n <= s.len() {
-        return part_of(s, 0, n);
+    if unlock[1] == 1 {
+        UNLOCK_WITH_PREIMAGE - UNLOCK
+    } else {
+        0
     }
-    part_of(s, 0, 0)
-}
-
-// What is behind them, or all where there are fewer.
-fn back_bytes(s: &[u8], n: usize) -> &[u8]
-    ensures { result.now ≡ left s.now n }
-{
-    if n <= s.len() {
-        return part_of(s, n, s.len());
-    }
-    s
 }
 
 impl<'a> WitnessReader<'a> {
@@ -59,172 +35,74 @@ impl<'a> WitnessReader<'a> {
     pub fn is_empty(self) -> bool
         ensures { result ≡ eqb (length self.entry.remaining.now) 0 }
     {
-        self.remaining.len() == 0
+        self.remaining.is_empty()
     }
 
-    // The next n bytes. Where there are fewer, none, and the reader stays where it is.
-    pub fn take(self, n: usize) -> TakeAnswer<'a>
-        ensures { (result.enough ≡ leb n (length self.entry.remaining.now))
-            × (result.part.now ≡ taken self.entry.remaining.now n)
-            × (result.rest.remaining.now ≡ left self.entry.remaining.now n) }
+    // The next n bytes and the reader of what is left; nothing where there are fewer.
+    #[tactic(auto, unfolding(crate::specs::Reader::taken, crate::specs::Reader::left))]
+    pub fn take(self, n: usize) -> Option<(&'a [u8], WitnessReader<'a>)>
+        ensures { MatchOption result
+            (taken self.entry.remaining.now n ≡ None)
+            (λ p. (taken self.entry.remaining.now n ≡ Some p.0.now) × (left self.entry.remaining.now n ≡ p.1.remaining.now)) }
     {
-        let s = self.remaining;
-        TakeAnswer {
-            enough: has(s, n),
-            part: front_bytes(s, n),
-            rest: WitnessReader {
-                remaining: back_bytes(s, n),
-            },
-        }
+        let (part, remaining) = self.remaining.split_at_checked(n)?;
+        Some((part, WitnessReader { remaining }))
     }
-}
 
-// Whether a reader of s has nothing left.
-fn ended(s: &[u8]) -> bool
-    ensures { result ≡ eqb (length s.now) 0 }
-{
-    WitnessReader { remaining: s }.is_empty()
-}
-
-// The bytes of the preimage behind an unlock's first 67: 32 where the flag is 1.
-fn preimage_len(unlock: &[u8]) -> usize
-    ensures { result ≡ preimage_len unlock.now }
-{
-    if unlock.len() < 2 {
-        return 0;
+    // The reader of what is left behind an unlock; nothing where the unlock is cut short.
+    fn pass_unlock(self) -> Option<WitnessReader<'a>>
+        ensures { MatchOption result
+            (length self.entry.remaining.now < unlock_len self.entry.remaining.now 0)
+            (λ rest. (unlock_len self.entry.remaining.now 0 ≤ length self.entry.remaining.now)
+            × (rest.remaining.now ≡ drop (unlock_len self.entry.remaining.now 0) self.entry.remaining.now)) }
+    {
+        let (unlock, rest) = self.take(UNLOCK)?;
+        let (_, rest) = rest.take(preimage_len(unlock))?;
+        Some(rest)
     }
-    if unlock[1] == 1 {
-        return 32;
-    }
-    0
-}
-
-// What is behind an unlock that was taken in two parts, or all of s where a part was not there.
-fn behind<'a>(s: &'a [u8], first: bool, second: bool, rest: &'a [u8]) -> &'a [u8]
-    ensures { result.now ≡ cond first (cond second rest.now s.now) s.now }
-{
-    if !first {
-        return s;
-    }
-    if !second {
-        return s;
-    }
-    rest
-}
-
-// What a reader of s leaves behind an unlock, or all of s where it is cut short.
-fn unlock_left(s: &[u8]) -> &[u8]
-    ensures { result.now ≡ left s.now (unlock_len s.now 0) }
-{
-    let unlock = WitnessReader { remaining: s }.take(UNLOCK);
-    let preimage = unlock.rest.take(preimage_len(unlock.part));
-    behind(s, unlock.enough, preimage.enough, preimage.rest.remaining)
 }
 
 // The unlocks to the end, of a witness with n TLCs. Each is at the place where what is left begins.
-fn read_unlocks<'a>(w: &'a [u8], n: usize, share_place: usize, rest: &'a [u8]) -> WitnessRead
-    requires { (share_place + 72 ≤ length w.now) × (rest.now ≡ drop (share_place + 72) w.now) }
+fn read_unlocks(
+    w: &[u8],
+    n: usize,
+    share_place: usize,
+    unlocks: WitnessReader<'_>,
+) -> Result<WitnessLayout, Refusal>
+    requires { (share_place + 72 ≤ length w.now) × (unlocks.remaining.now ≡ drop (share_place + 72) w.now) }
     ensures { result ≡ read_unlocks w.now n share_place }
 {
-    let mut left = rest;
+    let mut left = unlocks;
     let mut unlock_count = 0;
-    while !ended(left) {
-        let next = unlock_left(left);
-        if next.len() == left.len() {
-            return WitnessRead::Refused {
-                number: 4,
-                place: w.len() - left.len(),
-            };
-        }
+    while !left.is_empty() {
+        let Some(next) = left.pass_unlock() else {
+            return Err(Refusal::UnlockCut(w.len() - left.remaining.len()));
+        };
         left = next;
         unlock_count += 1;
     }
-    WitnessRead::Whole {
+    Ok(WitnessLayout {
         n,
         unlock_count,
         share_place,
         first_unlock: share_place + SHARES,
-    }
-}
-
-// The second of two counts, or 0.
-fn count_in(counts: &[u8]) -> usize
-    ensures { (result ≡ get_or counts.now 1 0) × (result < 256) }
-{
-    if counts.len() < 2 {
-        return 0;
-    }
-    counts[1] as usize
-}
-
-// The bytes of the TLCs, or 0 where hashes cannot have h bytes.
-fn tlcs_len(h: usize, counts: &[u8]) -> usize
-    ensures { result ≡ tlcs_len h counts.now }
-{
-    if !valid_hash_len(h) {
-        return 0;
-    }
-    count_in(counts) * (RECORD_FIXED + h)
-}
-
-// What three takes mean, by whether each had enough bytes: the row of the first that had not, or the unlocks.
-fn read_front<'a>(
-    h: usize,
-    w: &'a [u8],
-    counted: bool,
-    listed: bool,
-    shared: bool,
-    counts: &'a [u8],
-    rest: &'a [u8],
-) -> WitnessRead
-    requires { Front h w.now counted listed shared counts.now rest.now }
-    ensures { result ≡ read_witness h w.now }
-{
-    if !valid_hash_len(h) {
-        return WitnessRead::Refused {
-            number: 14,
-            place: 0,
-        };
-    }
-    if !counted {
-        return WitnessRead::Refused {
-            number: 1,
-            place: w.len(),
-        };
-    }
-    let size = RECORD_FIXED + h;
-    if !listed {
-        let whole = (w.len() - 2) / size;
-        return WitnessRead::Refused {
-            number: 2,
-            place: 2 + whole * size,
-        };
-    }
-    let n = count_in(counts);
-    let share_place = 2 + n * size;
-    if !shared {
-        return WitnessRead::Refused {
-            number: 3,
-            place: share_place,
-        };
-    }
-    read_unlocks(w, n, share_place, rest)
+    })
 }
 
 // Reads a witness of a channel whose hashes have h bytes: two counts, n TLCs and two shares, one taken behind the other, then the unlocks.
-pub fn read(h: usize, w: &[u8]) -> WitnessRead
+pub fn read(h: usize, w: &[u8]) -> Result<WitnessLayout, Refusal>
     ensures { result ≡ read_witness h w.now }
 {
-    let counts = WitnessReader { remaining: w }.take(2);
-    let tlcs = counts.rest.take(tlcs_len(h, counts.part));
-    let shares = tlcs.rest.take(SHARES);
-    read_front(
-        h,
-        w,
-        counts.enough,
-        tlcs.enough,
-        shares.enough,
-        counts.part,
-        shares.rest.remaining,
-    )
+    let size = HashLen::try_from(h)?.record_len();
+    let (counts, tlcs) = WitnessReader { remaining: w }
+        .take(2)
+        .ok_or(Refusal::WitnessShort(w.len()))?;
+    let n = counts[1] as usize;
+    let Some((_, shares)) = tlcs.take(n * size) else {
+        let whole = tlcs.remaining.len() / size;
+        return Err(Refusal::TlcCut(2 + whole * size));
+    };
+    let share_place = 2 + n * size;
+    let (_, unlocks) = shares.take(SHARES).ok_or(Refusal::SharesCut(share_place))?;
+    read_unlocks(w, n, share_place, unlocks)
 }

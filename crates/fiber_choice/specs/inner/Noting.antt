@@ -1,14 +1,15 @@
 -- How the code finds the first TLC that is still pending: its walk notes the first place at which the count stayed, and the
 -- cause is looked for there alone.
-use Rattle.std.specs.Prelude.{ℕ, ◌+◌, ◌<◌, ◌≡◌, cond, ◌&&◌, List, [], ◌∷◌, ◌⊎◌, eqb, ltb, length, get_or}
+use Rattle.std.specs.Prelude.{ℕ, ◌+◌, ◌<◌, ◌≡◌, cond, ◌&&◌, List, [], ◌∷◌, ◌⊎◌, eqb, ltb, length, get_or, Result, Ok, Err}
 use Rattle.fiber_choice.specs.declared.kinds.Cause.{Cause}
 use Rattle.fiber_choice.specs.declared.kinds.Wait.{Wait}
 use Rattle.fiber_choice.specs.declared.kinds.Wait.TheVariants as WaitCase
 use Rattle.fiber_choice.specs.declared.kinds.Step.{Step}
 use Rattle.fiber_choice.specs.declared.kinds.Step.TheVariants as StepCase
 use Rattle.fiber_choice.specs.declared.kinds.Noted.{Noted}
-use Rattle.fiber_choice.specs.declared.kinds.Pick.{Pick}
-use Rattle.fiber_choice.specs.declared.kinds.Pick.TheVariants as PickCase
+use Rattle.fiber_choice.specs.declared.kinds.Choice.{Choice}
+use Rattle.fiber_choice.specs.declared.kinds.Key.{Key}
+use Rattle.fiber_choice.specs.declared.kinds.Chosen.{Chosen}
 use Rattle.fiber_choice.specs.Walk.{Verdict, ready, step_of}
 use Rattle.fiber_choice.specs.Waits.{still, status_by}
 
@@ -39,6 +40,15 @@ abbrev pub WaitsAt : ℕ → List Verdict → ℕ → Wait → Type 0
 WaitsAt time vs k w = ((k ≡ length vs) × (w ≡ WaitCase.DelayNotDue)) ⊎ ((cause : Cause) × ((k < length vs) × ((status_by time (verdict_at vs k) ≡ still cause) × (w ≡ WaitCase.Tlc k cause))))
 
 -- a choice, or the wait that goes with a walk without one
+abbrev pub Pick : Type 0
+Pick = Result Chosen Wait
+
+abbrev pub picked : Choice → Key → Pick
+picked choice key = Ok (record { choice = choice; key = key })
+
+abbrev pub unpicked : Wait → Pick
+unpicked wait = Err wait
+
 unfoldable pub pick_of : Step → Wait → Pick
-pick_of (StepCase.Pending left) w = PickCase.Wait w
-pick_of (StepCase.Chosen choice key) w = PickCase.Chosen choice key
+pick_of (StepCase.Pending left) w = unpicked w
+pick_of (StepCase.Chosen choice key) w = picked choice key

@@ -1,12 +1,12 @@
 -- How the code keeps products within 64 bits: one that is tested, and the bounds that it knows before it compares.
-use Rattle.std.specs.Prelude.{ℕ, ◌*◌, ◌^◌, ◌<◌, cond, ltb}
+use Rattle.std.specs.Prelude.{ℕ, ◌*◌, ◌^◌, ◌<◌, cond, ltb, Result, Ok, Err}
+use Rattle.fiber_refusal.specs.declared.Refusal.{Refusal}
+use Rattle.fiber_refusal.specs.declared.Refusal.TheVariants.{ScaledAbove}
 use Rattle.fiber_since.specs.declared.epoch.Epoch.{Epoch}
-use Rattle.fiber_since.specs.declared.epoch.Product.{Product}
-use Rattle.fiber_since.specs.declared.epoch.Product.TheVariants as ProductCase
 
--- a product that has 64 bits
-unfoldable pub checked_mul : ℕ → ℕ → Product
-checked_mul a b = cond (ltb (a * b) (2 ^ 64)) (ProductCase.Fits (a * b)) ProductCase.Over
+-- a product that has 64 bits, else 8
+unfoldable pub product : ℕ → ℕ → Result ℕ Refusal
+product a b = cond (ltb (a * b) (2 ^ 64)) (Ok (a * b)) (Err ScaledAbove)
 
 -- what the due test has found before it compares: each field within its bits, and no length of 0
 pub record Bounded (e : Epoch) : Type 0 where

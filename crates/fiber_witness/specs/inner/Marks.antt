@@ -1,9 +1,6 @@
 -- How the code remembers which TLCs an update has settled: a mark for each place. Only contracts of inner functions speak of it.
 use Rattle.std.specs.Prelude.{ℕ, suc, ◌≡◌, Bool, false, cond, List, [], ◌∷◌, get_or, replicate}
-use Rattle.fiber_witness.specs.declared.unlocks.UnlocksAnswer.{UnlocksAnswer}
-use Rattle.fiber_witness.specs.declared.unlocks.UnlocksAnswer.TheVariants as UnlocksCase
 use Rattle.fiber_witness.specs.Witness.{member}
-use Rattle.fiber_witness.specs.Update.{Unlocked, fine, faulty}
 
 -- marks that say what a list of settled places says
 unfoldable pub Marks : List Bool → List ℕ → Type 0
@@ -21,8 +18,3 @@ marked marks = marked_from 0 marks
 
 unfoldable pub no_marks : List Bool
 no_marks = replicate 256 false
-
--- what `take_unlocks` answers where the unlocks come to this: marks and shares where all are fine, else the row alone
-unfoldable pub TakesAs : Unlocked → UnlocksAnswer → List Bool → Bool → Bool → Type 0
-TakesAs (fine n share_place t) a marks remote local = (a ≡ UnlocksCase.Fine) × (Marks marks t.settled × ((remote ≡ t.remote) × (local ≡ t.local)))
-TakesAs (faulty number place) a marks remote local = a ≡ UnlocksCase.Refused number place

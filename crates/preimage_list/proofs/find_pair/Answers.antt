@@ -1,28 +1,16 @@
--- Each turn looks at one pair; what the search finds in the list is what it finds in the flat slice of the same pairs.
+-- The first pair that passes the test is the first with the hash, in the list as in the flat slice of the same pairs.
+use Rattle.std.proofs.Common.{rules, tests}
 use mathlib.Core.Path.{◌∙◌}
-use Rattle.preimage_list.proofs.PreimageListLaws.{find_agrees, sized, hash_at_is}
-use Rattle.preimage_list.proofs.Search.{starts, within, steps, stops}
+use Rattle.std.proofs.lemmas.Iterator.{YieldsList-from_slice}
+use Rattle.std.proofs.lemmas.Iterator.Adapters.{position_from-zero}
+use Rattle.std.proofs.lemmas.Iterator.Search.{position_from_yields_List}
+use Rattle.preimage_list.proofs.PreimageListLaws.{pair_has, find_agrees, sized}
 use Rattle.preimage_list.proofs.find_pair.Goals as goal
-
-pub loop-i-init : goal.loop-i-init
-loop-i-init c = starts c.args.pairs.now c.args.hash
-
-pub loop-i-smaller : goal.loop-i-smaller
-loop-i-smaller c =
-    let l = c.loop-i in
-    let ys = c.args.pairs.now in
-    let e = rw (hash_at_is ys l.i c.index-pairs-i.result (within ys c.args.hash l.i l.end l.invariant c.loop-i-test.true)) at c.cut-end.ensures in
-    (steps ys c.args.hash l.i l.end _ l.invariant c.loop-i-test.true e).0
-
-pub loop-i-preserved : goal.loop-i-preserved
-loop-i-preserved c =
-    let l = c.loop-i in
-    let ys = c.args.pairs.now in
-    let e = rw (hash_at_is ys l.i c.index-pairs-i.result (within ys c.args.hash l.i l.end l.invariant c.loop-i-test.true)) at c.cut-end.ensures in
-    (steps ys c.args.hash l.i l.end _ l.invariant c.loop-i-test.true e).1
 
 pub returns : goal.returns
 returns c =
-    c.found.ensures
-    ∙ stops c.args.pairs.now c.args.hash c.loop-i.i c.loop-i.end c.loop-i.invariant c.loop-i-test.false
-    ∙ find_agrees c.args.pairs.now c.args.hash (sized c.args.pairs.now)
+    let ys = c.args.pairs.now in
+    position_from_yields_List (pair_has c.args.hash) c.position.new.self _ c.position.result c.position.ensures.ran
+    (YieldsList-from_slice ys c.iter.ensures.rest) (λ x b q k. search (rules, tests))
+    ∙ position_from-zero (pair_has c.args.hash) ys
+    ∙ find_agrees ys c.args.hash (sized ys)

@@ -1,4 +1,4 @@
--- The three of the sixteen numbers that say what the choice is.
+-- The three of the seventeen numbers that say what the choice is.
 use Rattle.std.specs.Prelude.{ℕ, List, [], ◌∷◌}
 use Rattle.fiber_choice.specs.declared.kinds.Choice.{Choice}
 use Rattle.fiber_choice.specs.HandedOut.{choice_byte}

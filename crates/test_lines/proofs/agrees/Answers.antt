@@ -1,19 +1,17 @@
--- What is left to compare, from here, gives what the whole gives.
-use Rattle.std.proofs.Common.{rules}
-use Rattle.test_lines.proofs.LinesLaws.{agree_length, agree_start, holds_end, holds_not, holds_more}
+-- Both say whether each byte is the one at its place.
+use Rattle.std.proofs.Common.{◌≡◌, ℕ, ◌*◌, ◌<◌, length, get_or, ne_eqb, ◌∙◌, rules}
+use Rattle.std.proofs.iter.runs.Made.{chains}
+use Rattle.std.specs.Bool.{Decides}
+use Rattle.test_lines.specs.Lines.{hex_at}
+use Rattle.test_lines.proofs.LinesLaws.{agree_is, agree_not}
 use Rattle.test_lines.proofs.agrees.Goals as goal
 
 pub returns-then-s-bytes : goal.returns-then-s-bytes
-returns-then-s-bytes c = agree_length _ _ c.if-s-bytes.true
+returns-then-s-bytes c =
+    let s = c.args.s.now in
+    let bytes = c.args.bytes.now in
+    let each : Decides c.all.result ((k : ℕ) → k < length bytes → get_or bytes k 0 ≡ hex_at s (2 * k)) = search (rules, chains) in
+    agree_is s bytes c.all.result c.if-s-bytes.true each
 
-pub loop-i-init : goal.loop-i-init
-loop-i-init c = (c.if-s-bytes.false, agree_start _ _ c.if-s-bytes.false)
-
-pub returns-then-bytes-i : goal.returns-then-bytes-i
-returns-then-bytes-i c = holds_not _ _ _ _ _ c.loop-i.invariant.1 (search rules) _ c.hex_at.ensures c.if-bytes-i.true
-
-pub loop-i-preserved : goal.loop-i-preserved
-loop-i-preserved c = (c.loop-i.invariant.0, holds_more _ _ _ _ _ c.loop-i.invariant.1 (search rules) _ c.hex_at.ensures c.if-bytes-i.false)
-
-pub returns : goal.returns
-returns c = holds_end _ _ _ _ _ c.loop-i.invariant.1 (search rules)
+pub returns-else-s-bytes : goal.returns-else-s-bytes
+returns-else-s-bytes c = ne_eqb _ _ c.if-s-bytes.false ∙ agree_not _ _ c.if-s-bytes.false

@@ -1,33 +1,23 @@
--- The rest from here is the whole search; the place only grows.
-use Rattle.std.proofs.Common.{refl, rules}
+-- The first place behind `at`, as the definition has it.
+use Rattle.std.proofs.Common.{◌≡◌, true, false, sym, ◌∙◌, ◌-◌, length, drop, ◌≤◌, inl, inr, rules, arith}
+use Rattle.std.proofs.lemmas.Iterator.{IsFirst-from_position, YieldsList-from_slice}
+use borrow.Author.Tests.{tests}
 use Rattle.test_lines.specs.Lines.{find}
-use Rattle.test_lines.proofs.LinesLaws.{find_end, find_here, find_line, find_on}
+use Rattle.test_lines.proofs.LinesLaws.{Ends, before, before_is, find_is, find_past, rest_is}
 use Rattle.test_lines.proofs.find.Goals as goal
 
-pub loop-i-init : goal.loop-i-init
+pub returns-in-Some-clause-value : goal.returns-in-Some-clause-value
 unfolding find
-loop-i-init c = (search rules, search rules, refl)
+returns-in-Some-clause-value c =
+    let s = c.args.s.now in
+    let b = c.args.b in
+    let rest = c.in-Some.rest.now in
+    let first = IsFirst-from_position _ _ c.position.result (Ends b true) (Ends b false) c.position.ensures.ran (YieldsList-from_slice rest c.iter.ensures.rest) (λ x q k. search (rules, tests)) (λ x q k. search (rules, tests)) in
+    let found : c.unwrap_or.result ≡ before b rest = c.unwrap_or.ensures ∙ sym (before_is b c.position.result rest first) in
+    let whole : rest ≡ drop c.args.at s = rest_is s rest _ c.args.at (omega arith) c.in-Some.ensures.lookup.0.2 in
+    let within : c.args.at ≤ length s = omega (arith, c.in-Some.ensures.lookup.0.0) in
+    rw (found, whole) (find_is b s (length s - c.args.at) c.args.at (omega arith))
 
-pub returns-then-s-i : goal.returns-then-s-i
-returns-then-s-i c =
-    let a = c.args in
-    let l = c.loop-i in
-    record { value = find_here a.s.now a.b l.i _ l.invariant.2 (search rules) c.if-s-i.true; lower_bound = search rules }
-
-pub returns-then-s-i-eq-NEWLINE : goal.returns-then-s-i-eq-NEWLINE
-returns-then-s-i-eq-NEWLINE c =
-    let a = c.args in
-    let l = c.loop-i in
-    record { value = find_line a.s.now a.b l.i _ l.invariant.2 (search rules) c.if-s-i.false c.if-s-i-eq-NEWLINE.true; lower_bound = search rules }
-
-pub loop-i-preserved : goal.loop-i-preserved
-loop-i-preserved c =
-    let a = c.args in
-    let l = c.loop-i in
-    (search rules, search rules, find_on a.s.now a.b l.i _ l.invariant.2 (search rules) c.if-s-i.false c.if-s-i-eq-NEWLINE.false)
-
-pub returns : goal.returns
-returns c =
-    let a = c.args in
-    let l = c.loop-i in
-    record { value = find_end a.s.now a.b l.i _ l.invariant.2 (search rules); lower_bound = search rules }
+pub returns-in-None-clause-value : goal.returns-in-None-clause-value
+unfolding find
+returns-in-None-clause-value c = elim c.in-None.ensures.lookup.0 [ inl h ↦ find_past _ _ _ (omega arith) | inr h ↦ absurd (omega arith) ]

@@ -6,6 +6,3 @@ use Rattle.test_lines.proofs.unhex.Given as goal
 
 abbrev pub invariant-loop-i : goal.invariant-loop-i
 invariant-loop-i l = (length l.out ≡ length l.initial.out) × (sets l.out l.i (hex_bytes (l.n - l.i) l.s l.i) ≡ sets l.initial.out 0 (hex_bytes l.n l.s 0))
-
-abbrev pub decreases-loop-i : goal.decreases-loop-i
-decreases-loop-i l = l.n - l.i

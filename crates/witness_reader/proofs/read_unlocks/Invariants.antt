@@ -4,7 +4,7 @@ use Rattle.witness_reader.proofs.ReaderLaws.{Rest}
 use Rattle.witness_reader.proofs.read_unlocks.Given as goal
 
 abbrev pub invariant-loop-left : goal.invariant-loop-left
-invariant-loop-left l = Rest l.w l.left l.n l.share_place l.unlock_count
+invariant-loop-left l = Rest l.w l.left.remaining.now l.n l.share_place l.unlock_count
 
 abbrev pub decreases-loop-left : goal.decreases-loop-left
-decreases-loop-left l = length l.left
+decreases-loop-left l = length l.left.remaining.now

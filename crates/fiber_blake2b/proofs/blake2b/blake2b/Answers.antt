@@ -1,11 +1,6 @@
 -- `blake2b` meets its contract: the words at the end are eight, and all are written.
-use Rattle.std.proofs.Common.{rules}
-use Rattle.fiber_blake2b.proofs.Blake2bLaws.{eight, chain_by}
+use Rattle.fiber_blake2b.proofs.Blake2bLaws.{chain_by}
 use Rattle.fiber_blake2b.proofs.blake2b.blake2b.Goals as goal
-
-pub finish-requires : goal.finish-requires
-finish-requires c =
-    (search rules, eight _ _ _ _ c.initial-h.ensures c.absorb.ensures, search rules)
 
 pub returns : goal.returns
 returns c =

@@ -1,12 +1,8 @@
 -- `ckb_hash` meets its contract: the first 32 bytes are those of the first four words.
-use Rattle.std.proofs.Common.{refl, rules}
+use Rattle.std.proofs.Common.{refl}
 use Rattle.fiber_blake2b.specs.Blake2b.{ckb_personal}
-use Rattle.fiber_blake2b.proofs.Blake2bLaws.{eight, ckb_by}
+use Rattle.fiber_blake2b.proofs.Blake2bLaws.{ckb_by}
 use Rattle.fiber_blake2b.proofs.blake2b.ckb_hash.Goals as goal
-
-pub finish-requires : goal.finish-requires
-finish-requires c =
-    (search rules, eight _ _ _ _ c.initial-h.ensures c.absorb.ensures, search rules)
 
 pub returns : goal.returns
 unfolding ckb_personal

@@ -1,15 +1,12 @@
--- `fold` meets its contract: after i turns h is `folded i`.
-use Rattle.std.proofs.Common.{refl, rules}
-use Rattle.fiber_blake2b.specs.Blake2b.{folded}
-use Rattle.fiber_blake2b.proofs.Blake2bLaws.{folded_more, folded_all}
+-- `fold` meets its contract: word by word.
+use Rattle.std.proofs.Common.{◌+◌, get_or, bit_xor, rules, arith}
+use Rattle.fiber_bytes.proofs.ArraysLaws.{from_fn_at}
+use Rattle.fiber_blake2b.proofs.Blake2bLaws.{folded_by}
 use Rattle.fiber_blake2b.proofs.blake2b.fold.Goals as goal
 
-pub loop-i-init : goal.loop-i-init
-unfolding folded
-loop-i-init c = (search rules, refl)
-
-pub loop-i-preserved : goal.loop-i-preserved
-loop-i-preserved c = (search rules, folded_more _ _ _ _ c.loop-i.invariant.1)
-
 pub returns : goal.returns
-returns c = folded_all _ _ _ _ c.loop-i.invariant.0 (search rules) c.loop-i.invariant.1
+returns c =
+    let h = c.args.h.now in
+    let v = c.args.v.now in
+    let m = c.from_fn.ensures.items in
+    folded_by c.from_fn.result h v m.long (search rules) (λ i l. from_fn_at _ (λ k. bit_xor (bit_xor (get_or h k 0) (get_or v k 0)) (get_or v (k + 8) 0)) _ (λ k y q t. search rules) _ 8 0 m.each i (omega arith) (omega arith))

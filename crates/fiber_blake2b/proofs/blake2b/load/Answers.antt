@@ -1,15 +1,12 @@
--- `load` meets its contract: after i turns the first i words of m are those of the block.
-use Rattle.std.proofs.Common.{refl, rules}
-use Rattle.fiber_blake2b.specs.Blake2b.{words}
-use Rattle.fiber_blake2b.proofs.Blake2bLaws.{words_more, words_all}
+-- `load` meets its contract: word by word.
+use Rattle.std.proofs.Common.{◌+◌, ◌*◌, rules, arith}
+use Rattle.fiber_bytes.specs.Bytes.{part, le}
+use Rattle.fiber_bytes.proofs.ArraysLaws.{from_fn_at}
+use Rattle.fiber_blake2b.proofs.Blake2bLaws.{words_by}
 use Rattle.fiber_blake2b.proofs.blake2b.load.Goals as goal
 
-pub loop-i-init : goal.loop-i-init
-unfolding words
-loop-i-init c = (search rules, refl, refl)
-
-pub loop-i-preserved : goal.loop-i-preserved
-loop-i-preserved c = (search rules, search rules, words_more _ _ _ _ _ (search rules) c.loop-i.invariant.2 c.le64.ensures)
-
 pub returns : goal.returns
-returns c = words_all _ _ _ _ (search rules) c.loop-i.invariant.0 c.loop-i.invariant.1 c.loop-i.invariant.2
+returns c =
+    let a = c.args in
+    let m = c.from_fn.ensures.items in
+    words_by c.from_fn.result a.s.now a.at m.long (λ i h. from_fn_at _ (λ k. le (part a.s.now (a.at + 8 * k) 8)) _ (λ k y q t. search rules) _ 16 0 m.each i (omega arith) (omega arith))

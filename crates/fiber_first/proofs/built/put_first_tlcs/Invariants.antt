@@ -1,11 +1,11 @@
 -- To write what is left, from here, gives what the whole gives.
--- Each record goes to the front of the part of the output that begins behind the one before it.
-use Prim.Native.Nat.{◌-◌}
+use mathlib.Core.List.{flatten}
+use Rattle.fiber_choice.specs.Entries.{entries, settlement_len}
+use Rattle.fiber_choice.specs.FirstRecords.{first_records}
 use Rattle.fiber_choice.proofs.FirstRecordsLaws.{Firsts}
+use Rattle.fiber_first.specs.Left.{left}
 use Rattle.fiber_first.proofs.built.put_first_tlcs.Given as goal
 
-abbrev pub invariant-loop-i : goal.invariant-loop-i
-invariant-loop-i l = Firsts l.h l.for_remote l.tlcs l.initial.out l.out l.from l.at l.i
-
-abbrev pub decreases-loop-i : goal.decreases-loop-i
-decreases-loop-i l = l.n - l.i
+abbrev pub invariant-loop-tlc : goal.invariant-loop-tlc
+invariant-loop-tlc l =
+    Firsts l.h.bytes l.for_remote (flatten (first_records l.h.bytes l.for_remote (entries settlement_len l.tlcs))) l.initial.out (left l.tlc-iterator) l.out l.at

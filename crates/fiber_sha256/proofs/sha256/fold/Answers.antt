@@ -1,15 +1,12 @@
--- The loop adds word after word, as `folded` does.
-use Rattle.std.proofs.Common.{◌≡◌, refl, arith, rules}
-use Rattle.fiber_sha256.specs.Sha256.{folded}
-use Rattle.fiber_sha256.proofs.Sha256Laws.{folded_more}
+-- Word by word.
+use Rattle.std.proofs.Common.{◌+◌, ◌%◌, ◌^◌, get_or, rules, arith}
+use Rattle.fiber_bytes.proofs.ArraysLaws.{from_fn_at}
+use Rattle.fiber_sha256.proofs.Sha256Laws.{folded_by}
 use Rattle.fiber_sha256.proofs.sha256.fold.Goals as goal
 
-pub loop-i-init : goal.loop-i-init
-unfolding folded
-loop-i-init c = (search rules, refl)
-
-pub loop-i-preserved : goal.loop-i-preserved
-loop-i-preserved c = (search rules, folded_more _ _ _ _ _ c.loop-i.invariant.1 c.wrapping_add_u32.ensures.value)
-
 pub returns : goal.returns
-returns c = let e : c.loop-i.i ≡ 8 = omega arith in rw e at c.loop-i.invariant.1
+returns c =
+    let h = c.args.h in
+    let v = c.args.v in
+    let m = c.from_fn.ensures.items in
+    folded_by c.from_fn.result h v m.long (search rules) (λ i l. from_fn_at _ (λ k. (get_or h k 0 + get_or v k 0) % 2 ^ 32) _ (λ k y q t. search rules) _ 8 0 m.each i (omega arith) (omega arith))

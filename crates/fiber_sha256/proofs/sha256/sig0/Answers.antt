@@ -1,9 +1,15 @@
--- `sig0` by its rotations, each of which `rotr` makes.
-use Rattle.std.proofs.Common.{refl, ap₂}
+-- `sig0` by its rotations.
+use Rattle.std.proofs.Common.{refl, ◌∙◌, ap₂, arith}
 use lib.Bits.{bit_xor}
+use Rattle.fiber_bytes.proofs.WordsLaws.{rotated_right}
 use Rattle.fiber_sha256.specs.Sha256.{sig0}
 use Rattle.fiber_sha256.proofs.sha256.sig0.Goals as goal
 
 pub returns : goal.returns
 unfolding sig0
-returns c = ap₂ bit_xor (ap₂ bit_xor c.rotr.ensures c.rotr-2.ensures) refl
+returns c =
+    let x = c.args.x in
+    let l = c.ranges.x.fits in
+    ap₂ bit_xor
+    (ap₂ bit_xor (c.rotate_right.ensures ∙ rotated_right 32 x 7 l (omega arith) (omega arith)) (c.rotate_right-2.ensures ∙ rotated_right 32 x 18 l (omega arith) (omega arith)))
+    refl

@@ -1,68 +1,42 @@
 -- The rows before the walk, then the walk, then what is handed out.
 -- Where 254 stand at most, and they are the tracked ones, no more are tracked.
-use Rattle.fiber_types.proofs.RecordsLaws.{hash_len_small}
-use Rattle.fiber_choice.proofs.SettlementsLaws.{state_refused, state_wait, state_few, state_nothing, state_within, state_chosen}
+use Prim.Native.Nat.{ℕ}
+use mathlib.Core.Path.{◌≡◌, refl, ◌∙◌}
+use mathlib.Core.Bool.{Bool, true, false, cond, not}
+use mathlib.Core.List.{List}
+use Rattle.std.proofs.lemmas.Result.{err_from_is_err_and}
+use Rattle.fiber_witness.specs.inner.Marks.{marked}
+use Rattle.fiber_choice.specs.Settlements.{unsettled}
+use Rattle.fiber_choice.specs.inner.Request.{request_by}
+use Rattle.fiber_choice.proofs.SettlementsLaws.{state_stops, state_few, state_nothing, state_within, state_chosen}
 use Rattle.fiber_walk.proofs.later.later_state.Goals as goal
 
-pub later_ready-requires : goal.later_ready-requires
-later_ready-requires c =
-    (hash_len_small c.args.scalars.h c.requires.0, (c.requires.1.0, c.requires.1.1.0))
+-- the other share, as the code names it
+other_by : (b : Bool) (x y : List ℕ) → cond (not b) x y ≡ cond b y x
+other_by true x y = refl
+other_by false x y = refl
+
+pub returns-in_err-later_ready : goal.returns-in_err-later_ready
+returns-in_err-later_ready c =
+    let p = err_from_is_err_and c.from_residual.result c.from_residual.ensures.1 in
+    rw (p.1, p.2) (state_stops _ _ _ _ _ _ _ _ c.ours_of-ours.ensures (c.ours_of-other.ensures ∙ other_by c.args.q.now.for_remote c.args.shares.local c.args.shares.remote) _ c.is_last-last.ensures _ c.later_ready.ensures _ c.in_err-later_ready.was)
 
 pub later_choice-requires : goal.later_choice-requires
-later_choice-requires c = (
-  c.requires.0,
-  state_few _ c.args.out.now _ c.args.w.now _ _ _ _
-      c.by_flag-ours.ensures
-      c.by_flag-other.ensures
-      _ c.is_last-last.ensures _ (c.later_ready.ensures c.args.args.now c.args.tlcs.now c.args.remote_key.now c.args.preimages.now) c.in-Yes.is,
-)
+later_choice-requires c = state_few (request_by c.args.q.now) c.args.out.now _ (unsettled (marked c.args.marks.now.settled) 0 c.args.marks.now.n) _ _ _ _ c.ours_of-ours.ensures (c.ours_of-other.ensures ∙ other_by c.args.q.now.for_remote c.args.shares.local c.args.shares.remote) _ c.is_last-last.ensures _ c.later_ready.ensures c.in_ok-later_ready.was
 
-pub later_place-place-requires : goal.later_place-place-requires
-later_place-place-requires c =
-    (hash_len_small c.args.scalars.h c.requires.0, c.requires.1.0)
+pub returns-in_err-chosen : goal.returns-in_err-chosen
+returns-in_err-chosen c =
+    let p = err_from_is_err_and c.from_residual-in_err-chosen.result c.from_residual-in_err-chosen.ensures.1 in
+    rw (p.1, p.2) (state_nothing _ _ _ _ _ _ _ _ c.ours_of-ours.ensures (c.ours_of-other.ensures ∙ other_by c.args.q.now.for_remote c.args.shares.local c.args.shares.remote) _ c.is_last-last.ensures _ c.later_ready.ensures c.in_ok-later_ready.was _ c.later_choice.ensures _ c.in_err-chosen.was)
+
+pub invariant_of-lent : goal.invariant_of-lent
+invariant_of-lent c = record { args_long = c.args.q.now.args_long; few = state_few (request_by c.args.q.now) c.args.out.now _ (unsettled (marked c.args.marks.now.settled) 0 c.args.marks.now.n) _ _ _ _ c.ours_of-ours.ensures (c.ours_of-other.ensures ∙ other_by c.args.q.now.for_remote c.args.shares.local c.args.shares.remote) _ c.is_last-last.ensures _ c.later_ready.ensures c.in_ok-later_ready.was }
 
 pub write_output-requires : goal.write_output-requires
 write_output-requires c =
-    let e = c.later_ready.ensures c.args.args.now c.args.tlcs.now c.args.remote_key.now c.args.preimages.now in
-    let l = c.is_last-last.ensures in
-    let f = c.later_choice.ensures c.args.args.now c.args.local_key.now c.args.remote_key.now in
-    let p = c.by_flag-ours.ensures in
-    let o = c.by_flag-other.ensures in
-    record {
-      h_value = (
-        c.requires.0,
-        (state_few _ c.args.out.now _ c.args.w.now _ _ _ _ p o _ l _ e c.in-Yes.is, c.requires.1.1.1),
-      );
-      within = state_within _ c.args.out.now _ c.args.w.now _ _ _ _ p o _ l _ e c.in-Yes.is _ f _ _ c.in-Chosen.is;
-    }
+    state_within (request_by c.args.q.now) c.args.out.now _ (unsettled (marked c.args.marks.now.settled) 0 c.args.marks.now.n) _ _ _ _ c.ours_of-ours.ensures (c.ours_of-other.ensures ∙ other_by c.args.q.now.for_remote c.args.shares.local c.args.shares.remote) _ c.is_last-last.ensures _ c.later_ready.ensures c.in_ok-later_ready.was _ c.later_choice.ensures _ _ c.in_ok-chosen.was
 
-pub returns-in-Refused : goal.returns-in-Refused
-returns-in-Refused c =
-    state_refused _ _ _ _ _ _ _ _
-    c.by_flag-ours.ensures
-    c.by_flag-other.ensures
-    _ c.is_last-last.ensures _ (c.later_ready.ensures c.args.args.now c.args.tlcs.now c.args.remote_key.now c.args.preimages.now) _ c.in-Refused.is
-
-pub returns-in-Wait : goal.returns-in-Wait
-returns-in-Wait c =
-    state_wait _ _ _ _ _ _ _ _
-    c.by_flag-ours.ensures
-    c.by_flag-other.ensures
-    _ c.is_last-last.ensures _ (c.later_ready.ensures c.args.args.now c.args.tlcs.now c.args.remote_key.now c.args.preimages.now) _ c.in-Wait.is
-
-pub returns-in-Wait-later_choice : goal.returns-in-Wait-later_choice
-returns-in-Wait-later_choice c =
-    state_nothing _ _ _ _ _ _ _ _
-    c.by_flag-ours.ensures
-    c.by_flag-other.ensures
-    _ c.is_last-last.ensures _ (c.later_ready.ensures c.args.args.now c.args.tlcs.now c.args.remote_key.now c.args.preimages.now) c.in-Yes.is
-    _ (c.later_choice.ensures c.args.args.now c.args.local_key.now c.args.remote_key.now) _ c.in-Wait-later_choice.is
-
-pub returns-in-Chosen : goal.returns-in-Chosen
-returns-in-Chosen c =
-    state_chosen _ _ _ _ _ _ _ _
-    c.by_flag-ours.ensures
-    c.by_flag-other.ensures
-    _ c.is_last-last.ensures _ (c.later_ready.ensures c.args.args.now c.args.tlcs.now c.args.remote_key.now c.args.preimages.now) c.in-Yes.is
-    _ (c.later_choice.ensures c.args.args.now c.args.local_key.now c.args.remote_key.now) _ _ c.in-Chosen.is
+pub returns : goal.returns
+returns c =
+    state_chosen _ _ _ _ _ _ _ _ c.ours_of-ours.ensures (c.ours_of-other.ensures ∙ other_by c.args.q.now.for_remote c.args.shares.local c.args.shares.remote) _ c.is_last-last.ensures _ c.later_ready.ensures c.in_ok-later_ready.was _ c.later_choice.ensures _ _ c.in_ok-chosen.was
     _ c.later_place-place.ensures _ _ c.write_output.ensures

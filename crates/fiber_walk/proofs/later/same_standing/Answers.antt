@@ -1,57 +1,82 @@
 -- To compare the rests, from here, gives what comparing all gives; each record that stands takes the next tracked one.
--- Lists of different lengths are not the same, so where the loop runs a tracked one is left for each that stands.
-use mathlib.Core.Path.{sym, ap₂, ◌∙◌}
+use Prim.Native.Nat.{ℕ, ◌≤◌, ◌<◌}
+use mathlib.Core.Path.{◌≡◌, sym, ◌∙◌}
 use native.Mathlib.Omega.{arith}
-use Rattle.fiber_choice.specs.Entries.{same}
-use Rattle.fiber_choice.proofs.SettlementsLaws.{record_between, comparing_short, comparing_start, comparing_end, comparing_from, comparing_at, comparing_gone, comparing_differ, comparing_same}
+use mathlib.Core.Bool.{Bool, true, false, false≢true, not}
+use mathlib.Core.List.{List, [], ◌∷◌}
+use lib.ListN.{length-take}
+use lib.Seq.{get_or-take}
+use Rattle.std.specs.Prelude.{Option, Some, None, is_some, MatchOption}
+use Rattle.std.specs.Borrow.{Bor}
+use Rattle.fiber_choice.proofs.SettlementsLaws.{record_differs, comparing_start, comparing_end, comparing_over, comparing_from, comparing_gone, comparing_short, comparing_differ, comparing_same, comparing_whole}
 use Rattle.fiber_walk.proofs.later.same_standing.Goals as goal
-use Rattle.fiber_walk.proofs.later.same_standing.Goals.{then-not-marks-i+else-not-same, else-not-marks-i}
+use Rattle.fiber_walk.proofs.later.same_standing.Goals.{then-not-settled+in-Some+else-ne, else-not-settled}
 
-pub returns-then-k-tracked : goal.returns-then-k-tracked
-returns-then-k-tracked c = comparing_short _ _ _ _ _ _ c.requires.k_value c.if-k-tracked.true
+-- whether a tracked TLC is left behind the last that stands
+ended : (r : Option (Bor (List ℕ))) (b whole : Bool) (es rest : List (List ℕ)) → MatchOption r ((es ≡ []) × (rest ≡ [])) (λ x. es ≡ x.now ∷ rest) → is_some r ≡ not b
+    → (es ≡ [] → true ≡ whole) → ((t : List ℕ) (ts : List (List ℕ)) → es ≡ t ∷ ts → false ≡ whole) → b ≡ whole
+ended None true whole es rest p q f g = f p.0
+ended None false whole es rest p q f g = absurd (false≢true q)
+ended (Some x) true whole es rest p q f g = absurd (false≢true (sym q))
+ended (Some x) false whole es rest p q f g = g _ _ p
 
-pub loop-i-init : goal.loop-i-init
-loop-i-init c = comparing_start _ _ _ _ _ _ c.requires.k_value c.if-k-tracked.false
+pub loop-settled-init : goal.loop-settled-init
+loop-settled-init c = comparing_start _ _ _ _ _ _ c.tracked_tlcs-others.ensures
+
+pub returns-in_default : goal.returns-in_default
+returns-in_default c =
+    let m = c.args.marks.now in
+    let below : c.loop-settled.settled-index < m.n = omega (arith, length-take m.n m.settled, c.loop-settled-test.true) in
+    comparing_short _ _ _ _ _ _ _ _ _ c.loop-settled.invariant below (sym (get_or-take m.n m.settled c.loop-settled.settled-index false below) ∙ c.if-not-settled.true) c.in_default.ensures.steps.0
 
 pub overflow_add-from : goal.overflow_add-from
 overflow_add-from c =
-    omega (arith, comparing_from _ _ _ _ _ _ _ _ _ c.loop-i.invariant c.loop-i-test.true c.requires.h_bound.1.1)
+    let m = c.args.marks.now in
+    let below : c.loop-settled.settled-index < m.n = omega (arith, length-take m.n m.settled, c.loop-settled-test.true) in
+    omega (arith, comparing_from _ _ _ _ _ _ _ _ _ c.loop-settled.invariant below c.requires, c.record_len-size.ensures)
 
-pub overflow_add-from-then-not-marks-i : goal.overflow_add-from-then-not-marks-i
-overflow_add-from-then-not-marks-i c =
-    omega (arith, comparing_from _ _ _ _ _ _ _ _ _ c.loop-i.invariant c.loop-i-test.true c.requires.h_bound.1.1)
+pub slice_bounds-ne-end : goal.slice_bounds-ne-end
+slice_bounds-ne-end c =
+    let m = c.args.marks.now in
+    let below : c.loop-settled.settled-index < m.n = omega (arith, length-take m.n m.settled, c.loop-settled-test.true) in
+    omega (arith, comparing_from _ _ _ _ _ _ _ _ _ c.loop-settled.invariant below c.requires, c.record_len-size.ensures)
 
-pub slice_bounds-same-end : goal.slice_bounds-same-end
-slice_bounds-same-end c =
-    omega (arith, comparing_from _ _ _ _ _ _ _ _ _ c.loop-i.invariant c.loop-i-test.true c.requires.h_bound.1.1)
+pub slice_bounds-ne-count-then-not-settled : goal.slice_bounds-ne-count-then-not-settled
+slice_bounds-ne-count-then-not-settled c =
+    let m = c.args.marks.now in
+    let below : c.loop-settled.settled-index < m.n = omega (arith, length-take m.n m.settled, c.loop-settled-test.true) in
+    omega (arith, comparing_whole _ _ _ _ _ _ _ _ _ c.loop-settled.invariant below (sym (get_or-take m.n m.settled c.loop-settled.settled-index false below) ∙ c.if-not-settled.true) _ _ c.in-Some.ensures.steps)
 
-pub returns-then-not-same : goal.returns-then-not-same
-returns-then-not-same c =
-    let l = c.loop-i in
-    let a = c.args in
-    comparing_differ _ _ _ _ _ _ _ _ _ l.invariant c.loop-i-test.true c.if-not-marks-i.true
-    (ap₂ same (sym (record_between a.w.now l.from a.h)) (sym c.part_of.ensures) ∙ sym c.same.ensures ∙ c.if-not-same.true)
+pub slice_bounds-ne-start-then-not-settled : goal.slice_bounds-ne-start-then-not-settled
+slice_bounds-ne-start-then-not-settled c =
+    let m = c.args.marks.now in
+    let below : c.loop-settled.settled-index < m.n = omega (arith, length-take m.n m.settled, c.loop-settled-test.true) in
+    omega (arith, comparing_whole _ _ _ _ _ _ _ _ _ c.loop-settled.invariant below (sym (get_or-take m.n m.settled c.loop-settled.settled-index false below) ∙ c.if-not-settled.true) _ _ c.in-Some.ensures.steps)
 
-pub overflow_add-at : goal.overflow_add-at
-overflow_add-at c =
-    let l = c.loop-i in
-    omega (arith, comparing_at _ _ _ _ _ _ _ _ _ l.invariant c.loop-i-test.true c.if-not-marks-i.true)
+pub returns-then-ne : goal.returns-then-ne
+returns-then-ne c =
+    let m = c.args.marks.now in
+    let below : c.loop-settled.settled-index < m.n = omega (arith, length-take m.n m.settled, c.loop-settled-test.true) in
+    comparing_differ _ _ _ _ _ _ _ _ _ c.loop-settled.invariant below (sym (get_or-take m.n m.settled c.loop-settled.settled-index false below) ∙ c.if-not-settled.true) _ _ c.in-Some.ensures.steps (record_differs _ c.in-Some.other.now _ _ c.args.h.bytes true c.record_len-size.ensures c.if-ne.ensures)
 
-pub overflow_add-from-in-loop-i-2 : goal.overflow_add-from-in-loop-i-2
-overflow_add-from-in-loop-i-2 c =
-    omega (arith, comparing_from _ _ _ _ _ _ _ _ _ c.loop-i.invariant c.loop-i-test.true c.requires.h_bound.1.1)
+pub overflow_add-from-in-loop-settled : goal.overflow_add-from-in-loop-settled
+overflow_add-from-in-loop-settled c =
+    let m = c.args.marks.now in
+    let below : c.loop-settled.settled-index < m.n = omega (arith, length-take m.n m.settled, c.loop-settled-test.true) in
+    omega (arith, comparing_from _ _ _ _ _ _ _ _ _ c.loop-settled.invariant below c.requires, c.record_len-size.ensures)
 
-pub loop-i-preserved : goal.loop-i-preserved
-loop-i-preserved c =
-    let l = c.loop-i in
-    let a = c.args in
-    elim c.if-not-marks-i.branch [
-      | then-not-marks-i+else-not-same w ↦
-          rw w.at-is
-          (comparing_same _ _ _ _ _ _ _ _ _ l.invariant c.loop-i-test.true w.if-not-marks-i.true
-          (ap₂ same (sym (record_between a.w.now l.from a.h)) (sym w.part_of.ensures) ∙ sym w.same.ensures ∙ w.if-not-same.false))
-      | else-not-marks-i w ↦ rw w.at-is (comparing_gone _ _ _ _ _ _ _ _ _ l.invariant c.loop-i-test.true w.if-not-marks-i.false)
-    ]
+pub loop-settled-preserved : goal.loop-settled-preserved
+loop-settled-preserved c =
+    let m = c.args.marks.now in
+    let below : c.loop-settled.settled-index < m.n = omega (arith, length-take m.n m.settled, c.loop-settled-test.true) in
+    rw c.record_len-size.ensures
+    (elim c.if-not-settled.branch [
+      | then-not-settled+in-Some+else-ne w ↦ rw w.others-is (comparing_same _ _ _ _ _ _ _ _ _ c.loop-settled.invariant below (sym (get_or-take m.n m.settled c.loop-settled.settled-index false below) ∙ w.if-not-settled.true) _ _ w.in-Some.ensures.steps (record_differs _ w.in-Some.other.now _ _ c.args.h.bytes false c.record_len-size.ensures w.if-ne.ensures))
+      | else-not-settled w ↦ rw w.others-is (comparing_gone _ _ _ _ _ _ _ _ _ c.loop-settled.invariant below (sym (get_or-take m.n m.settled c.loop-settled.settled-index false below) ∙ w.if-not-settled.false))
+    ])
 
 pub returns : goal.returns
-returns c = comparing_end _ _ _ _ _ _ _ _ _ c.loop-i.invariant c.loop-i-test.false
+returns c =
+    let m = c.args.marks.now in
+    let end : m.n ≤ c.loop-settled.settled-index = omega (arith, length-take m.n m.settled, c.loop-settled-test.false, m.few, m.settled_256) in
+    ended _ _ _ _ _ c.next-2.ensures.steps c.is_none.ensures (comparing_end _ _ _ _ _ _ _ _ _ c.loop-settled.invariant end) (comparing_over _ _ _ _ _ _ _ _ _ c.loop-settled.invariant end)

@@ -2,34 +2,21 @@
 -- Where all are whole, the shares follow them.
 use mathlib.Core.Path.{refl, ◌∙◌}
 use native.Mathlib.Omega.{arith}
-use Rattle.fiber_witness.proofs.WitnessLaws.{share_small, whole_room, whole_cut, shares_cut, shares_whole}
+use Rattle.fiber_witness.proofs.WitnessLaws.{whole_cut, shares_cut, shares_whole}
 use Rattle.fiber_witness.proofs.witness.read_tlcs.Goals as goal
 
-pub overflow_mul-share_place : goal.overflow_mul-share_place
-overflow_mul-share_place c =
-    let a = c.args in
-    omega (arith, share_small a.h a.w.now a.n (omega arith) (omega arith))
-
-pub overflow_add-share_place : goal.overflow_add-share_place
-overflow_add-share_place c =
-    let a = c.args in
-    omega (arith, share_small a.h a.w.now a.n (omega arith) (omega arith))
-
-pub overflow_mul-result : goal.overflow_mul-result
-overflow_mul-result c =
-    let a = c.args in
-    omega (arith, whole_room a.h a.w.now a.n _ refl (omega arith))
-
-pub overflow_add-result : goal.overflow_add-result
-overflow_add-result c =
-    let a = c.args in
-    omega (arith, whole_room a.h a.w.now a.n _ refl (omega arith))
-
 pub returns-then-w-share_place : goal.returns-then-w-share_place
-returns-then-w-share_place c = whole_cut _ _ _ _ refl (omega arith) c.if-w-share_place.true
+returns-then-w-share_place c =
+    rw c.record_len-size.ensures (whole_cut _ _ _ _ refl c.requires.0 (rw c.record_len-size.ensures at c.if-w-share_place.true))
 
 pub returns-then-w-share_place-lt-SHARES : goal.returns-then-w-share_place-lt-SHARES
-returns-then-w-share_place-lt-SHARES c = shares_cut _ _ _ c.if-w-share_place.false (omega arith)
+returns-then-w-share_place-lt-SHARES c =
+    let room = rw c.record_len-size.ensures at c.if-w-share_place.false in
+    let short = rw c.record_len-size.ensures at c.if-w-share_place-lt-SHARES.true in
+    rw c.record_len-size.ensures (shares_cut c.args.h.bytes c.args.w.now c.args.n room (omega arith))
 
 pub returns : goal.returns
-returns c = c.read_unlocks.ensures ∙ shares_whole _ _ _ c.if-w-share_place.false (omega arith)
+returns c =
+    let room = rw c.record_len-size.ensures at c.if-w-share_place.false in
+    let shares = rw c.record_len-size.ensures at c.if-w-share_place-lt-SHARES.false in
+    c.read_unlocks.ensures ∙ rw c.record_len-size.ensures (shares_whole c.args.h.bytes c.args.w.now c.args.n room (omega arith))

@@ -2,6 +2,7 @@
 -- An unlock has more than one byte, so what is left of the witness falls.
 use mathlib.Core.Path.{sym, ◌∙◌}
 use native.Mathlib.Omega.{arith}
+use Rattle.std.proofs.lemmas.Result.{err_from_is_err_and}
 use Rattle.fiber_witness.proofs.WitnessLaws.{reading_start, reading_less, reading_more, reading_cut, reading_end}
 use Rattle.fiber_witness.proofs.witness.read_unlocks.Goals as goal
 
@@ -10,7 +11,7 @@ loop-at-init c = reading_start _ _ _ c.requires
 
 pub loop-at-preserved : goal.loop-at-preserved
 loop-at-preserved c =
-    reading_more _ _ _ _ _ c.loop-at.invariant (omega arith) _ _ (sym c.read.ensures ∙ c.in-Whole.is) c.witness_len-at.ensures
+    reading_more _ _ _ _ _ c.loop-at.invariant (omega arith) _ _ (sym c.read.ensures ∙ c.in_ok-u.was) c.witness_len-at.ensures
 
 pub overflow_add-at : goal.overflow_add-at
 overflow_add-at c = omega (arith, (loop-at-preserved c).room)
@@ -20,11 +21,12 @@ overflow_add-unlock_count c = omega (arith, (loop-at-preserved c).room, (loop-at
 
 pub loop-at-smaller : goal.loop-at-smaller
 loop-at-smaller c =
-    reading_less _ _ _ _ _ c.loop-at.invariant (omega arith) _ _ (sym c.read.ensures ∙ c.in-Whole.is) c.witness_len-at.ensures
+    reading_less _ _ _ _ _ c.loop-at.invariant (omega arith) _ _ (sym c.read.ensures ∙ c.in_ok-u.was) c.witness_len-at.ensures
 
-pub returns-in-Refused : goal.returns-in-Refused
-returns-in-Refused c =
-    reading_cut _ _ _ _ _ c.loop-at.invariant (omega arith) _ _ (sym c.read.ensures ∙ c.in-Refused.is)
+pub returns-in_err-u : goal.returns-in_err-u
+returns-in_err-u c =
+    let p = err_from_is_err_and c.from_residual.result c.from_residual.ensures.1 in
+    rw (p.1, p.2) (reading_cut _ _ _ _ _ c.loop-at.invariant (omega arith) _ (sym c.read.ensures ∙ c.in_err-u.was))
 
 pub returns : goal.returns
 returns c = reading_end _ _ _ _ _ c.loop-at.invariant c.loop-at-test.false

@@ -1,20 +1,14 @@
--- The reading decides.
--- A witness that is read whole has its TLCs and its shares, and its TLC count is a byte.
-use mathlib.Core.Path.{sym, ◌∙◌}
-use native.Mathlib.Omega.{arith}
-use Rattle.fiber_witness.proofs.WitnessLaws.{read_fine}
-use Rattle.fiber_witness.proofs.UpdateLaws.{updated_refused, updated_whole}
+-- The length of hashes, then the reading and what follows it.
+use mathlib.Core.Path.{sym}
+use Rattle.std.proofs.lemmas.Result.{err_from_is_err_and}
+use Rattle.fiber_witness.proofs.WitnessLaws.{witness_unknown}
+use Rattle.fiber_witness.proofs.UpdateLaws.{updated_refused}
 use Rattle.watchtower.proofs.update.update.Goals as goal
 
-pub settle-requires : goal.settle-requires
-settle-requires c =
-    let f = read_fine _ _ _ _ _ _ (sym c.read.ensures ∙ c.in-Whole.is) in
-    record { h_bound = (f.small, omega (arith, f.count, c.type_inv.w 1)); n_in_bounds = omega (arith, f.tlcs, f.shares) }
+pub returns-in_err-h : goal.returns-in_err-h
+returns-in_err-h c =
+    let p = err_from_is_err_and c.from_residual.result c.from_residual.ensures.1 in
+    rw (p.1, p.2, c.in_err-h.ensures.1) (updated_refused c.args.h c.args.w.now c.args.out.now _ (sym (witness_unknown c.args.h c.args.w.now c.in_err-h.ensures.0)))
 
-pub returns-in-Whole : goal.returns-in-Whole
-returns-in-Whole c =
-    rw (updated_whole _ _ _ _ _ _ _ (sym c.read.ensures ∙ c.in-Whole.is))
-    c.settle.ensures
-
-pub returns-in-Refused : goal.returns-in-Refused
-returns-in-Refused c = updated_refused _ _ _ _ _ (sym c.read.ensures ∙ c.in-Refused.is)
+pub returns : goal.returns
+returns c = rw c.in_ok-h.ensures at c.settle.ensures

@@ -1,0 +1,25 @@
+// A request that rows 14 and 10 let pass.
+ghost use Rattle.std.specs.Prelude.{◌≡◌, true, ◌≤◌, length};
+ghost use Rattle.fiber_since.specs.Epoch.{within_bits};
+ghost use Rattle.fiber_choice.specs.Entries.{entries, all, valid_settlement, settlement_len};
+
+use crate::request::SettlementData;
+use fiber_types::epoch::Epoch;
+use fiber_types::hash_len::HashLen;
+
+#[derive(Clone, Copy)]
+pub struct Checked<'a> {
+    pub h: HashLen,
+    pub for_remote: bool,
+    pub time: u64,
+    pub header: Epoch,
+    pub current: Epoch,
+    pub args: &'a [u8],
+    pub settlement: SettlementData<'a>,
+    pub tracked: &'a [u8],
+    pub preimages: &'a [u8],
+    ghost args_long: { 36 ≤ length args.now },
+    ghost tlcs_valid: { all valid_settlement (entries settlement_len settlement.tlcs.now) ≡ true },
+    ghost header_within: { within_bits header ≡ true },
+    ghost current_within: { within_bits current ≡ true },
+}

@@ -1,0 +1,2 @@
+-- What is left of a list of entries.
+pub mod Left

@@ -1,0 +1,1 @@
+-- None of its own: callers cite the laws of fiber_choice.

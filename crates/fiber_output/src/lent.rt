@@ -1,0 +1,18 @@
+// What is handed out from, whatever is chosen.
+ghost use Rattle.std.specs.Prelude.{◌≤◌, length};
+ghost use Rattle.fiber_choice.specs.Entries.{entries, tracked_len};
+
+use fiber_types::hash_len::HashLen;
+use fiber_witness::shares::Shares;
+
+// The lock args, the tracked TLCs and the stored preimages that the host lends, and the shares before the unlock.
+#[derive(Clone, Copy)]
+pub struct Lent<'a> {
+    pub h: HashLen,
+    pub args: &'a [u8],
+    pub tracked: &'a [u8],
+    pub preimages: &'a [u8],
+    pub shares: Shares,
+    ghost args_long: { 36 ≤ length args.now },
+    ghost few: { length (entries (tracked_len h.bytes) tracked.now) ≤ 254 },
+}

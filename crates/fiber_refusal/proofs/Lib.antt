@@ -1,0 +1,1 @@
+-- No law: callers cite the definitions' numbers by computing.

@@ -1,0 +1,2 @@
+-- What a refusal says.
+pub mod Rows

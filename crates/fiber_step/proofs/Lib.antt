@@ -1,0 +1,2 @@
+-- What the code cuts out of a tracked TLC.
+pub mod RecordLaws

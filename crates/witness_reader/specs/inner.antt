@@ -1,2 +1,0 @@
--- What only private contracts cite: nobody has to believe it.
-pub mod Front
