@@ -3,14 +3,13 @@
 use Prim.Native.Nat.{ℕ, ◌≤◌, ◌<◌}
 use native.Mathlib.Omega.{arith}
 use mathlib.Core.Path.{◌≡◌, refl, sym}
-use mathlib.Core.Bool.{Bool, true, false, ◌&&◌}
 use mathlib.Core.List.{List, [], ◌++◌}
 use lib.ListN.{length, length-append}
 use lib.Seq.{sets}
-use borrow.Author.Tests.{lt-ltb, le-ltb, le-leb, lt-leb}
+use borrow.Author.Tests.{lt-ltb, le-ltb}
 use Rattle.fiber_bytes.specs.Bytes.{le_bytes}
 use Rattle.fiber_bytes.proofs.BytesLaws.{le_bytes_length, sets_then}
-use Rattle.c_answer.specs.Answers.{Answer, row, fields, answered, call, Leaves, is_flag, flag_call}
+use Rattle.c_answer.specs.Answers.{Answer, row, fields, answered, call, Leaves}
 
 -- ---- one number behind the other
 
@@ -55,40 +54,3 @@ pub call_by : {X : Type 0} (size : ℕ) (answer : X → Answer) (x : X) (written
     → {r : ℕ} {o b : List ℕ} → Leaves (answered (answer y) [] buffer) r [] b → o ≡ written → Leaves (call size (answer x) written out buffer) r o b
 unfolding call
 call_by size answer x written out buffer h y e g f = rw (le-ltb (length buffer) size h, ← e, answered_out (answer y) written buffer, g, f)
-
--- ---- a call with flags
-
-pub is_flag_lem : (flag : ℕ) → flag ≤ 1 → is_flag flag ≡ true
-unfolding is_flag
-is_flag_lem flag f = le-leb flag 1 f
-
-pub no_flag : (flag : ℕ) → 1 < flag → is_flag flag ≡ false
-unfolding is_flag
-no_flag flag f = lt-leb flag 1 f
-
--- of two flags
-pub both_flags : (x y : ℕ) → x ≤ 1 → y ≤ 1 → (is_flag x && is_flag y) ≡ true
-both_flags x y f g = rw (is_flag_lem x f, is_flag_lem y g)
-
-pub first_no_flag : (x y : ℕ) → 1 < x → (is_flag x && is_flag y) ≡ false
-first_no_flag x y f = rw (no_flag x f)
-
-pub second_no_flag : (x y : ℕ) → x ≤ 1 → 1 < y → (is_flag x && is_flag y) ≡ false
-second_no_flag x y f g = rw (is_flag_lem x f, no_flag y g)
-
-module _ (size : ℕ) (a : Answer) (written out buffer : List ℕ) where
-  pub flags_short : (are_flags : Bool) → length buffer < size → Leaves (flag_call are_flags size a written out buffer) 14 out buffer
-  unfolding flag_call
-  flags_short true f = call_short size a written out buffer f
-  flags_short false f = call_short size (row 14 0) out out buffer f
-
-  -- one is no flag
-  pub flags_refused : (are_flags : Bool) → are_flags ≡ false → size ≤ length buffer → {r : ℕ} {b : List ℕ} → Leaves (answered (row 14 0) [] buffer) r [] b
-      → Leaves (flag_call are_flags size a written out buffer) r out b
-  unfolding flag_call
-  flags_refused are_flags e f g = rw (e, call_by size (λ x. x) (row 14 0) out out buffer f (row 14 0) refl g refl)
-
-  pub flags_taken : (are_flags : Bool) → are_flags ≡ true → {r : ℕ} {o b : List ℕ} → Leaves (call size a written out buffer) r o b
-      → Leaves (flag_call are_flags size a written out buffer) r o b
-  unfolding flag_call
-  flags_taken are_flags e g = rw (e, g)

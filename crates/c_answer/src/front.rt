@@ -15,7 +15,7 @@ pub fn put_front(answer: &mut [u8], number: u64, place: u64)
     put_le64(answer, 8, place);
 }
 
-// Refused; gives the return value, as accept does.
+// Refused; gives the return value, as accept does. Number and place come apart: a wait has them as well as a refusal.
 pub fn refuse(answer: &mut [u8], number: usize, place: usize) -> u64
     ensures { S.Leaves (S.answered (S.row number place) [] answer.old) result [] answer.new }
 {

@@ -49,7 +49,7 @@ fn turn(v: &mut [u64; 16], d: usize, a: usize, k: u32)
     v[d] = (v[d] ^ v[a]).rotate_right(k);
 }
 
-// A half of G.
+// A half of G. These two have the parameters that RFC 7693 gives G, and the rotations.
 fn half_mix(v: &mut [u64; 16], a: usize, b: usize, c: usize, d: usize, x: u64, j: u32, k: u32)
     requires { (a < 16) × (b < 16) × (c < 16) × (d < 16) × (0 < j) × (j < 64) × (0 < k) × (k < 64) }
     ensures { v.new ≡ S.half v.old a b c d x j k }

@@ -15,8 +15,3 @@ by_each P b x y f g = by_test P b x y (λ _. f) (λ _. g)
 pub by_test₂ : {A B : Type 0} (P : A → B → Type 0) (b : Bool) (x y : A) (x' y' : B) → (b ≡ true → P x x') → (b ≡ false → P y y') → P (cond b x y) (cond b x' y')
 by_test₂ P true x y x' y' f g = f refl
 by_test₂ P false x y x' y' f g = g refl
-
-pub by_test₃ : {A B C : Type 0} (P : A → B → C → Type 0) (b : Bool) (x y : A) (x' y' : B) (x'' y'' : C) → (b ≡ true → P x x' x'') → (b ≡ false → P y y' y'')
-    → P (cond b x y) (cond b x' y') (cond b x'' y'')
-by_test₃ P true x y x' y' x'' y'' f g = f refl
-by_test₃ P false x y x' y' x'' y'' f g = g refl

@@ -4,12 +4,10 @@ use Prim.Native.Nat.{ℕ}
 use mathlib.Core.Path.{◌≡◌}
 use mathlib.Core.Bool.{Bool, true, false}
 use mathlib.Core.List.{List}
-use Rattle.std.specs.Prelude.{Result, Ok, Err}
+use Rattle.std.specs.Prelude.{Ok, Err}
 use Rattle.fiber_refusal.specs.declared.Refusal.{Refusal}
-use Rattle.fiber_refusal.specs.declared.Refusal.TheVariants.{TlcCut, UnlockCut, LengthZero, ArgsShort, NoDelay, TooManyTlcs, OutputShort, NotWell}
-use Rattle.fiber_choice.specs.declared.kinds.NoChoice.{NoChoice}
-use Rattle.fiber_choice.specs.declared.kinds.NoChoice.TheVariants as NoChoiceCase
-use Rattle.fiber_choice.specs.Answered.{Answer, decided, waiting, refused, Ready, begins, stops_waiting, stops}
+use Rattle.fiber_refusal.specs.declared.Refusal.TheVariants.{NotWell}
+use Rattle.fiber_choice.specs.Answered.{refused}
 use Rattle.fiber_since.specs.declared.epoch.Epoch.{Epoch}
 use Rattle.fiber_choice.specs.Request.{Request, valid_request, delay_of}
 use Rattle.fiber_types.specs.Records.{Gives}

@@ -1,25 +1,23 @@
 -- Laws of `specs/Entries.antt`: equal bytes, and one family of laws for every walk over a list of entries, of any size.
 -- Assumes nothing.
-use Prim.Native.Nat.{ℕ, zero, suc, ◌+◌, ◌-◌, ◌*◌, ◌/◌, ◌%◌, ◌≤◌, ◌<◌}
-use native.Mathlib.Nat.{div-eq_of_lt, zero-mul, suc-mul, add-zero, mul-le-mul_right, zero-div, div-mul-le_self, div-le_self, add-mul-div_right}
+use Prim.Native.Nat.{ℕ, zero, suc, ◌+◌, ◌-◌, ◌*◌, ◌/◌, ◌≤◌, ◌<◌}
+use native.Mathlib.Nat.{div-eq_of_lt, zero-mul, suc-mul, mul-le-mul_right, zero-div, div-mul-le_self, add-mul-div_right}
 use native.Mathlib.Numerals.{add-one}
 use native.Mathlib.Omega.{arith}
 use mathlib.Core.Path.{◌≡◌, refl, sym, ap, ◌∙◌}
-use mathlib.Core.Bool.{Bool, true, false, cond, ◌&&◌, and-true, and-false, and-eq-true_iff, false≢true}
+use mathlib.Core.Bool.{Bool, true, false, ◌&&◌, and-eq-true_iff, false≢true}
 use mathlib.Core.List.{List, [], ◌∷◌, ◌++◌}
 use lib.Dec.{eqb}
-use lib.ListN.{length, get_or, take, drop, drop_of_length-le, length-append, length-drop, length-take}
-use lib.Seq.{drop-cons, drop-drop, drop-nil, take_at, drop_at, get_or-take, get_or-drop}
-use borrow.Author.Tests.{eq-eqb, ne_eqb, eqb-true, le-leb, lt-leb}
+use lib.ListN.{length, get_or, take, drop, length-append, length-drop, length-take}
+use lib.Seq.{take_all, drop-cons, drop-drop, drop-nil, take_at, drop_at}
+use borrow.Author.Tests.{eqb-true}
 use Rattle.std.specs.Prelude.{Option, Some, None}
 use Rattle.fiber_bytes.specs.Bytes.{part}
 use Rattle.fiber_bytes.proofs.BytesLaws.{part_length}
-use Rattle.fiber_types.specs.declared.tlc.Amount.{Amount}
 use Rattle.fiber_witness.specs.Witness.{chunks}
 use Rattle.std.proofs.lemmas.List.{take-append-drop}
 use Rattle.fiber_bytes.proofs.CaseLaws.{by_each}
-use Rattle.fiber_choice.specs.Entries.{same, same_lists, entries, all, find_first, settlement_len, valid_settlement, tracked_len, tracked_record, tracked_records, valid_tracked}
-use Rattle.fiber_choice.specs.Request.{SettlementData, valid_data}
+use Rattle.fiber_choice.specs.Entries.{same, same_lists, entries, find_first, tracked_len, tracked_record, tracked_records}
 use Rattle.fiber_witness.proofs.WitnessLaws.{Even, even_records, records_length, records_none, records_more}
 
 -- ---- the records of a tracked list
@@ -30,6 +28,10 @@ unfolding tracked_records
 tracked_length [] = refl
 tracked_length (e ∷ es) = ap suc (tracked_length es)
 
+-- as the code cuts it out: all that is behind the first 33 bytes
+pub record_rest : (t : List ℕ) → take (length t - 33) (drop 33 t) ≡ tracked_record t
+record_rest t = take_all (length t - 33) (drop 33 t) (omega (arith, length-drop 33 t))
+
 -- behind 33 bytes of its entry
 pub tracked_at : (es : List (List ℕ)) (i : ℕ) → get_or (tracked_records es) i [] ≡ tracked_record (get_or es i [])
 unfolding tracked_records
@@ -37,28 +39,9 @@ tracked_at [] i = sym (drop-nil 33)
 tracked_at (e ∷ es) zero = refl
 tracked_at (e ∷ es) (suc i) = tracked_at es i
 
--- ---- equal bytes
+-- ---- equal lists
 
--- a test of two lists, one element after the other, says no where their lengths differ
-pub unlike : {A : Type 0} (one : A → A → Bool) (test : List A → List A → Bool)
-    → ((y : A) (b : List A) → test [] (y ∷ b) ≡ false) → ((x : A) (a : List A) → test (x ∷ a) [] ≡ false)
-    → ((x y : A) (a b : List A) → test (x ∷ a) (y ∷ b) ≡ (one x y && test a b))
-    → (a b : List A) → (length a ≡ length b → ⊥) → false ≡ test a b
-unlike one test f g h [] [] ne = absurd (ne refl)
-unlike one test f g h [] (y ∷ b) ne = sym (f y b)
-unlike one test f g h (x ∷ a) [] ne = sym (g x a)
-unlike one test f g h (x ∷ a) (y ∷ b) ne = rw (h x y a b, ← unlike one test f g h a b (λ e. ne (ap suc e)), and-false)
-
--- lists of different lengths are not the same
-pub same_short : (a b : List ℕ) → (length a ≡ length b → ⊥) → false ≡ same a b
-same_short = unlike eqb same (λ y b. refl) (λ x a. refl) (λ x y a b. refl)
-
--- of lists too
-pub lists_short : (a b : List (List ℕ)) → (length a ≡ length b → ⊥) → false ≡ same_lists a b
-unfolding same_lists
-lists_short = unlike same same_lists (λ y b. refl) (λ x a. refl) (λ x y a b. refl)
-
--- so lists that are the same have one length
+-- lists that are the same have one length
 pub lists_length : (a b : List (List ℕ)) → same_lists a b ≡ true → length a ≡ length b
 unfolding same_lists
 lists_length [] [] e = refl
@@ -66,30 +49,7 @@ lists_length [] (y ∷ b) e = absurd (false≢true e)
 lists_length (x ∷ a) [] e = absurd (false≢true e)
 lists_length (x ∷ a) (y ∷ b) e = ap suc (lists_length a b ((and-eq-true_iff (same x y) (same_lists a b)).0 e).1)
 
--- The loop over the bytes, at byte i: whether the rests are the same, from here, is whether the wholes are.
-module _ (a b : List ℕ) (i : ℕ) (e : same (drop i a) (drop i b) ≡ same a b) where
-  module _ (f : i < length a) (g : i < length b) where
-    -- the rests, by their first bytes
-    same_cons : (eqb (get_or a i 0) (get_or b i 0) && same (drop (i + 1) a) (drop (i + 1) b)) ≡ same a b
-    same_cons = rw add-one (rw (drop-cons a i 0 f, drop-cons b i 0 g) at e)
-
-    -- two bytes that differ
-    pub same_differ : (get_or a i 0 ≡ get_or b i 0 → ⊥) → false ≡ same a b
-    same_differ ne = rw (ne_eqb (get_or a i 0) (get_or b i 0) ne) at same_cons
-
-    -- two that do not
-    pub same_agree : get_or a i 0 ≡ get_or b i 0 → same (drop (i + 1) a) (drop (i + 1) b) ≡ same a b
-    same_agree eq = rw (eq-eqb (get_or a i 0) (get_or b i 0) eq) at same_cons
-
-  -- at the end of both
-  pub same_end : length a ≤ i → length b ≤ i → true ≡ same a b
-  same_end f g = rw (drop_of_length-le a f, drop_of_length-le b g) at e
-
 -- ---- entries
-
--- a byte of a part
-pub part_byte : (s : List ℕ) (at size k : ℕ) → k < size → get_or (part s at size) k 0 ≡ get_or s (at + k) 0
-part_byte s at size k h = get_or-take size (drop at s) k 0 h ∙ get_or-drop at s k 0
 
 -- the record at a place of m
 pub record_at : (size m : ℕ) (s : List ℕ) (i : ℕ) → i < m → get_or (chunks size m s) i [] ≡ part s (i * size) size
@@ -182,76 +142,7 @@ entries_split size s p h =
     let n : length (take size s) ≡ size = length-take size s ∙ omega arith in
     ap (entries size) (sym (take-append-drop size s)) ∙ entries_append size (take size s) (drop size s) p n
 
--- The loop over the entries of s, at entry i, which begins in place at: what f says of the rest, from here, is what the whole comes to.
-pub record Along {A : Type 0} (size : ℕ) (s : List ℕ) (f : List (List ℕ) → A) (whole : A) (at i : ℕ) : Type 0 where
-  pub low : i ≤ length s / size
-  pub place : at ≡ i * size
-  pub rest : f (drop i (entries size s)) ≡ whole
-
--- before the first, all of them are left; the size may be written in another way
-pub along_start : {A : Type 0} (size size' : ℕ) (s : List ℕ) (f : List (List ℕ) → A) → size ≡ size' → Along size s f (f (entries size' s)) 0 0
-along_start size size' s f e = record { low = omega arith; place = sym (zero-mul size); rest = ap (λ (k : ℕ). f (entries k s)) e }
-
-module _ {A : Type 0} (size : ℕ) (s : List ℕ) (f : List (List ℕ) → A) (whole : A) (at i : ℕ) (c : Along size s f whole at i) where
-  -- at the end none is left
-  pub along_end : length s / size ≤ i → f [] ≡ whole
-  along_end h =
-      let g : length (entries size s) ≤ i = omega (arith, entries_length size s) in
-      ap f (sym (drop_of_length-le (entries size s) g)) ∙ c.rest
-
-  module _ (h : i < length s / size) where
-    -- the entry is whole
-    pub along_room : at + size ≤ length s
-    along_room = omega (arith, c.place, entry_room size s i h)
-
-    -- there are no more entries than bytes
-    pub along_few : i < length s
-    along_few = omega (arith, div-le_self (length s) size)
-
-    -- it and those behind it are left
-    pub along_cons : f (part s at size ∷ drop (i + 1) (entries size s)) ≡ whole
-    along_cons =
-        ap (λ (k : ℕ). f (part s k size ∷ drop (i + 1) (entries size s))) c.place
-        ∙ ap f (sym (entries_cons size s i h))
-        ∙ c.rest
-
-    -- where the entry alone says what the whole comes to
-    pub along_stop : (x : A) → ((es : List (List ℕ)) → f (part s at size ∷ es) ≡ x) → x ≡ whole
-    along_stop x e = sym (e (drop (i + 1) (entries size s))) ∙ along_cons
-
-    -- where those behind it do
-    pub along_next : (g : List (List ℕ) → A) → ((es : List (List ℕ)) → f (part s at size ∷ es) ≡ g es) → Along size s g whole (at + size) (i + 1)
-    along_next g e = record {
-      low = omega arith;
-      place = omega (arith, c.place, add-one i, suc-mul i size);
-      rest = sym (e (drop (i + 1) (entries size s))) ∙ along_cons;
-    }
-
--- ---- all entries are good
-
-module _ (good : List ℕ → Bool) (size : ℕ) (s : List ℕ) (whole : Bool) (at i : ℕ) (c : Along size s (all good) whole at i) where
-  -- all were
-  pub checking_end : length s / size ≤ i → true ≡ whole
-  checking_end h = along_end size s (all good) whole at i c h
-
-  module _ (h : i < length s / size) where
-    -- one that is not
-    pub checking_bad : good (part s at size) ≡ false → false ≡ whole
-    checking_bad e = along_stop size s (all good) whole at i c h false (λ es. rw e)
-
-    -- one that is
-    pub checking_good : good (part s at size) ≡ true → Along size s (all good) whole (at + size) (i + 1)
-    checking_good e = along_next size s (all good) whole at i c h (all good) (λ es. rw e)
-
 -- ---- the first that passes a test
-
--- no entry, and one more in front
-module _ (test : List ℕ → Bool) (i : ℕ) where
-  pub find_none : find_first test i [] ≡ None
-  find_none = refl
-
-  pub find_more : (e : List ℕ) (es : List (List ℕ)) → find_first test i (e ∷ es) ≡ cond (test e) (Some i) (find_first test (i + 1) es)
-  find_more e es = refl
 
 -- what is found is among n
 abbrev pub FoundBelow : ℕ → Option ℕ → Type 0
@@ -262,77 +153,6 @@ FoundBelow n None = Unit {0}
 pub found_below : (test : List ℕ → Bool) (es : List (List ℕ)) (i n : ℕ) → i + length es ≤ n → FoundBelow n (find_first test i es)
 found_below test [] i n h = tt
 found_below test (e ∷ es) i n h = by_each (FoundBelow n) (test e) _ _ (omega arith) (found_below test es (i + 1) n (omega arith))
-
--- a settlement TLC, by its first two bytes
-module _ (s : List ℕ) (at : ℕ) where
-  -- the first
-  first_byte : get_or (part s at settlement_len) 0 0 ≡ get_or s at 0
-  first_byte = part_byte s at settlement_len 0 (omega arith) ∙ ap (λ (k : ℕ). get_or s k 0) (add-zero at)
-
-  -- received is neither 0 nor 1
-  pub settlement_received : 1 < get_or s at 0 → valid_settlement (part s at settlement_len) ≡ false
-  unfolding valid_settlement
-  settlement_received h = rw (first_byte, lt-leb (get_or s at 0) 1 h)
-
-  module _ (h : get_or s at 0 ≤ 1) where
-    -- the algorithm is not
-    pub settlement_algorithm : 1 < get_or s (at + 1) 0 → valid_settlement (part s at settlement_len) ≡ false
-    unfolding valid_settlement
-    settlement_algorithm g =
-        rw (first_byte, le-leb (get_or s at 0) 1 h, part_byte s at settlement_len 1 (omega arith), lt-leb (get_or s (at + 1) 0) 1 g)
-
-    -- both are
-    pub settlement_good : get_or s (at + 1) 0 ≤ 1 → valid_settlement (part s at settlement_len) ≡ true
-    unfolding valid_settlement
-    settlement_good g =
-        rw (first_byte, le-leb (get_or s at 0) 1 h, part_byte s at settlement_len 1 (omega arith), le-leb (get_or s (at + 1) 0) 1 g)
-
--- a tracked TLC, by its algorithm, which is at place at
-module _ (s : List ℕ) (at size : ℕ) (f : 32 < size) (g : 32 ≤ at) where
-  -- its byte 32
-  byte_32 : get_or (part s (at - 32) size) 32 0 ≡ get_or s at 0
-  byte_32 =
-      let e : at - 32 + 32 ≡ at = omega arith in
-      part_byte s (at - 32) size 32 f ∙ ap (λ (k : ℕ). get_or s k 0) e
-
-  -- neither 0 nor 1
-  pub tracked_bad : 1 < get_or s at 0 → valid_tracked (part s (at - 32) size) ≡ false
-  unfolding valid_tracked
-  tracked_bad h = rw (byte_32, lt-leb (get_or s at 0) 1 h)
-
-  -- one of them
-  pub tracked_good : get_or s at 0 ≤ 1 → valid_tracked (part s (at - 32) size) ≡ true
-  unfolding valid_tracked
-  tracked_good h = rw (byte_32, le-leb (get_or s at 0) 1 h)
-
--- ---- settlement data
-
-module _ (tlcs local_key remote_key : List ℕ) (a b : Amount) where
-  -- the data of the contract
-  abbrev lent : SettlementData
-  lent = record { tlcs = tlcs; local_amount = a; remote_amount = b; local_key = local_key; remote_key = remote_key }
-
-  -- a list that ends within an entry
-  pub data_cut : (length tlcs % 124 ≡ 0 → ⊥) → false ≡ valid_data lent
-  unfolding valid_data
-  data_cut f = rw (ne_eqb (length tlcs % 124) 0 f)
-
-  module _ (f : length tlcs % 124 ≡ 0) where
-    -- a local key of another length
-    pub data_local : (length local_key ≡ 33 → ⊥) → false ≡ valid_data lent
-    unfolding valid_data
-    data_local g = rw (eq-eqb (length tlcs % 124) 0 f, ne_eqb (length local_key) 33 g, and-false)
-
-    module _ (g : length local_key ≡ 33) where
-      -- a remote key of another length
-      pub data_remote : (length remote_key ≡ 33 → ⊥) → false ≡ valid_data lent
-      unfolding valid_data
-      data_remote h = rw (eq-eqb (length tlcs % 124) 0 f, eq-eqb (length local_key) 33 g, ne_eqb (length remote_key) 33 h, and-false)
-
-      -- the TLCs decide
-      pub data_tlcs : length remote_key ≡ 33 → all valid_settlement (entries settlement_len tlcs) ≡ valid_data lent
-      unfolding valid_data
-      data_tlcs h = rw (eq-eqb (length tlcs % 124) 0 f, eq-eqb (length local_key) 33 g, eq-eqb (length remote_key) 33 h, and-true, and-true)
 
 -- as many tracked TLCs as the code counts
 pub tracked_count : (h : ℕ) (s : List ℕ) → length (entries (tracked_len h) s) ≡ length s / (98 + h)

@@ -48,7 +48,7 @@ module _ (h : ℕ) (b : Bool) (t : List ℕ) (k : valid_hash_len h ≡ true) (n 
       tlc_bytes_length _ (take h (part t 18 32)) (hash_of (cond b (remote_key t) (local_key t))) (hash_of (cond b (local_key t) (remote_key t)))
       ∙ omega (arith, first_hash_length, hash_length (cond b (remote_key t) (local_key t)), hash_length (cond b (local_key t) (remote_key t)))
 
-  -- read back from the front of the array that `first_record` makes
+  -- read back from the front of the array that it was written to
   pub first_back : (o : List ℕ) → o ≡ sets (replicate 97 0) 0 (first_record h b t) → (m : ℕ) → m ≡ record_len h → part o 0 m ≡ first_record h b t
   first_back o e m f =
       ap (λ (q : List ℕ). part q 0 m) e
@@ -238,12 +238,6 @@ module _ (h : ℕ) (b : Bool) where
       sames_fewer f = rw (e, f) at c.rest
 
       module _ {vs : List (List ℕ)} {w : List ℕ} (f : ws ≡ w ∷ vs) where
-        -- the tracked TLC is whole
-        pub sames_long : length w ≡ 98 + h
-        sames_long =
-            let n : length w ≡ tracked_len h = even_here (rw f at c.even) in
-            omega (arith, n)
-
         -- the record, and that of the tracked TLC, as they are compared
         module _ {r : List ℕ} (g : r ≡ first_record h b t) where
           both : (same r (take (length w - 33) (drop 33 w)) && same_lists (first_records h b us) (tracked_records vs)) ≡ whole

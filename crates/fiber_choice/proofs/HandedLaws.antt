@@ -6,12 +6,11 @@ use native.Mathlib.Omega.{arith}
 use mathlib.Core.Path.{◌≡◌, refl, sym, ap, ◌∙◌}
 use mathlib.Core.Bool.{Bool, true, false, cond}
 use mathlib.Core.List.{List, [], ◌∷◌, ◌++◌, append_assoc, flatten}
-use mathlib.Core.Logic.{◌⊎◌, inl, inr, ⊎_elim}
 use lib.Dec.{eqb}
 use lib.ListN.{length, get_or, take, drop, set, replicate, length-take, length-drop, length-append}
 use lib.Seq.{sets, length-sets, sets-eq, take_all, take_at, drop_at, take-set-le, drop-set-lt, length-take-le, drop-drop, get_or-drop}
 use borrow.Author.Tests.{ne_eqb, le-leb, lt-leb, lt-ltb}
-use Rattle.std.specs.Prelude.{Option, Ok}
+use Rattle.std.specs.Prelude.{Option, Some, None, is_some, Ok}
 use Rattle.fiber_refusal.specs.declared.Refusal.TheVariants.{OutputShort}
 use Rattle.fiber_choice.specs.Answered.{Answer, decided, refused}
 use Rattle.fiber_bytes.specs.Bytes.{part}
@@ -31,14 +30,14 @@ use Rattle.fiber_choice.specs.declared.kinds.Choice.TheVariants as ChoiceCase
 use Rattle.fiber_choice.specs.declared.kinds.Plan.{Plan}
 use Rattle.fiber_witness.specs.Witness.{record_len, chunks, state_bytes, member, unlock_len, places, unless_cut, read_witness, whole as read_whole, cut_at}
 use Rattle.fiber_witness.specs.Update.{keep, share_left, none, fine, take_unlocks, updated, state_after}
-use Rattle.fiber_witness.specs.inner.Marks.{marked, no_marks}
+use Rattle.fiber_witness.specs.inner.Marks.{Marks, marked, listed}
 use Rattle.fiber_witness.specs.inner.Strided.{behind_tlcs, strided, unmarked}
 use Rattle.fiber_choice.specs.Entries.{entries, tracked_len, tracked_records, pair_len, pair_preimage}
 use Rattle.fiber_choice.specs.HandedOut.{choice_byte, new_args, unlock_of, takes, choice_amount, record_size, handed_out}
-use Rattle.fiber_choice.specs.inner.Plan.{plan_of, plan_after, plan_unlock, joined, Below, Within}
+use Rattle.fiber_choice.specs.inner.Plan.{plan_of, PairWhole, preimage_of, plan_after, plan_unlock, joined, Below, Within}
 use Rattle.fiber_choice.specs.Promises.{PairIn}
 use Rattle.fiber_witness.proofs.WitnessLaws.{Even, even_none, even_more, even_at, flatten_even, state_size, places_nil, places_cons, member_none, cut_none, cut_passed}
-use Rattle.fiber_witness.proofs.UpdateLaws.{marks_none, keep_marked, left_length, sets_part, unlocks_none, unlocks_more, updated_fine}
+use Rattle.fiber_witness.proofs.UpdateLaws.{marks_front, keep_marked, left_length, sets_part, unlocks_none, unlocks_more, updated_fine}
 use Rattle.fiber_witness.proofs.StridedLaws.{strided_none, strided_more}
 use Rattle.fiber_witness.proofs.StateLaws.{Sound, read_sound, state_left_lem}
 use Rattle.fiber_choice.proofs.EntriesLaws.{tracked_count, tracked_length, tracked_at, entries_length, entry_at, entry_room}
@@ -94,7 +93,7 @@ module _ (h : ℕ) (s : List ℕ) where
 
   -- as many as there are whole entries
   pub tlcs_length : length tlcs ≡ length s / (98 + h)
-  tlcs_length = rw (tracked_size h) (tracked_length (entries (tracked_len h) s) ∙ entries_length (tracked_len h) s)
+  tlcs_length = tracked_length (entries (tracked_len h) s) ∙ tracked_count h s
 
   -- each is a part of the list
   pub tlc_at_lem : (i : ℕ) → i < length s / (98 + h) → get_or tlcs i [] ≡ part s (i * (98 + h) + 33) (record_len h)
@@ -153,20 +152,25 @@ module _ (h : ℕ) (s : List ℕ) where
       let m : n ≡ length s / tracked_len h = e ∙ entries_length (tracked_len h) s in
       rw (k, m) (ap (keep (marked marks) 0) (strided_tracked (record_len h) (length s / tracked_len h) s 0))
 
--- those that no marks leave are all
-pub unmarked_all : (rs : List (List ℕ)) → keep (marked no_marks) 0 rs ≡ rs
-unmarked_all rs = keep_marked no_marks [] marks_none 0 rs ∙ keep_all 0 rs
+-- with the marks of one place, or of none, in front of others
+module _ (h : ℕ) (s : List ℕ) (n : ℕ) (all : List Bool) (l : n ≤ length all) (e : n ≡ length (entries (tracked_len h) s)) where
+  -- each tracked TLC has one
+  pub marks_tracked : length (take n all) ≡ n
+  marks_tracked = omega (arith, length-take n all)
+
+  -- and the records that they leave are all but that one
+  pub unmarked_listed : (stride : ℕ) (place : Option ℕ) → stride ≡ 98 + h → Marks all (listed place)
+      → unmarked h s 33 stride (length (take n all)) (take n all) ≡ keep (listed place) 0 (tlcs h s)
+  unmarked_listed stride place d m =
+      unmarked_tracked h s stride (length (take n all)) (take n all) d (marks_tracked ∙ e)
+      ∙ keep_marked (take n all) (listed place) (marks_front n all (listed place) m) (tlcs h s) (omega (arith, e, marks_tracked, tracked_length (entries (tracked_len h) s)))
+
+-- none settled, all are kept
+pub keep_listed : (rs : List (List ℕ)) → keep (listed None) 0 rs ≡ rs
+unfolding listed
+keep_listed rs = keep_all 0 rs
 
 -- ---- all but one
-
-module _ (k : ℕ) where
-  -- the one that is left out is not among them
-  keep_past : (i : ℕ) (rs : List (List ℕ)) → (k < i) ⊎ (i + length rs ≤ k) → keep (k ∷ []) i rs ≡ rs
-  unfolding keep member
-  keep_past i [] h = refl
-  keep_past i (r ∷ rs) h =
-      rw (ne_eqb i k (⊎_elim (λ g. omega arith) (λ g. omega arith) h))
-      (ap (λ (l : List (List ℕ)). r ∷ l) (keep_past (i + 1) rs (⊎_elim (λ g. inl (omega arith)) (λ g. inr (omega arith)) h)))
 
 -- no more bytes are kept than there are
 pub keep_small : (s : List ℕ) (i : ℕ) (rs : List (List ℕ)) → length (flatten (keep s i rs)) ≤ length (flatten rs)
@@ -185,11 +189,6 @@ tracked_amount h s place g =
     rw (tlc_at_lem h s place (omega (arith, tracked_count h s)))
     (sym (amount_part s (place * (98 + h) + 33) (record_len h) 1 (omega arith)))
 
--- with a flag the first of two holds
-flagged : {A : Type 0} {b : Bool} → A ⊎ (b ≡ false) → b ≡ true → A
-flagged (inl a) e = a
-flagged (inr f) e = let z : ◌≡◌ {A = ℕ} 0 1 = cc in absurd (omega arith)
-
 -- ---- the state after the unlock
 
 module _ (rs : List (List ℕ)) (remote local : List ℕ) (p : Plan) where
@@ -197,8 +196,9 @@ module _ (rs : List (List ℕ)) (remote local : List ℕ) (p : Plan) where
   after_size : length remote ≡ 36 → length local ≡ 36 → (length (plan_after rs remote local p) ≤ 73 + length (flatten rs)) × (73 ≤ length (plan_after rs remote local p))
   unfolding plan_after
   after_size e f =
-      let z = state_size (keep (p.skip ∷ []) 0 rs) (share_left p.remote remote) (share_left p.local local) (left_length p.remote remote e) (left_length p.local local f) in
-      (omega (arith, z, keep_small (p.skip ∷ []) 0 rs), omega (arith, z))
+      let u = p.unlocked in
+      let z = state_size (keep (listed p.settled) 0 rs) (share_left u.remote remote) (share_left u.local local) (left_length u.remote remote e) (left_length u.local local f) in
+      (omega (arith, z, keep_small (listed p.settled) 0 rs), omega (arith, z))
 
 -- what was written to the front is read back
 pub front_back : (out S : List ℕ) → length S ≤ length out → take (length S) (sets out 0 S) ≡ S
@@ -208,29 +208,29 @@ front_back out S r = sets_back out S 0 (length S) refl (omega arith)
 
 module _ (preimages : List ℕ) (p : Plan) (out : List ℕ) (r : 99 ≤ length out) where
   -- without a preimage
-  pub unlock_plain : p.flag ≡ false
-      → sets out 0 (plan_unlock (entries pair_len preimages) p) ≡ (wrote_unlock (record { byte = p.byte; flag = p.flag }) (replicate 65 0) [] out).bytes
-  unfolding plan_unlock
+  pub unlock_plain : p.pair ≡ None
+      → sets out 0 (plan_unlock (entries pair_len preimages) p) ≡ (wrote_unlock (record { byte = p.byte; flag = is_some p.pair }) (replicate 65 0) [] out).bytes
+  unfolding plan_unlock preimage_of
   unlock_plain e =
-      let n : 67 ≡ witness_len p.flag = rw e in
-      rw (ap (λ (b : Bool). cond b (pair_preimage (get_or (entries pair_len preimages) p.pair_place [])) []) e)
-      (unlock_written (record { byte = p.byte; flag = p.flag }) (replicate 65 0) [] out 67 n refl refl (omega arith) _ refl).1
+      let n : 67 ≡ witness_len (is_some p.pair) = rw e in
+      rw (ap (preimage_of (entries pair_len preimages)) e)
+      (unlock_written (record { byte = p.byte; flag = is_some p.pair }) (replicate 65 0) [] out 67 n refl refl (omega arith) _ refl).1
 
   -- with the second half of its pair
-  pub unlock_paired : p.flag ≡ true → 64 * p.pair_place + 64 ≤ length preimages
+  pub unlock_paired : (place : ℕ) → p.pair ≡ Some place → 64 * place + 64 ≤ length preimages
       → sets out 0 (plan_unlock (entries pair_len preimages) p)
-      ≡ (wrote_unlock (record { byte = p.byte; flag = p.flag }) (replicate 65 0) (part preimages (64 * p.pair_place + 32) 32) out).bytes
-  unfolding plan_unlock
-  unlock_paired e g =
-      let n : 99 ≡ witness_len p.flag = rw e in
-      let k : 64 * p.pair_place + 32 ≡ p.pair_place * 64 + 32 = omega arith in
-      let y : part preimages (64 * p.pair_place + 32) 32 ≡ pair_preimage (get_or (entries pair_len preimages) p.pair_place []) =
+      ≡ (wrote_unlock (record { byte = p.byte; flag = is_some p.pair }) (replicate 65 0) (part preimages (64 * place + 32) 32) out).bytes
+  unfolding plan_unlock preimage_of
+  unlock_paired place e g =
+      let n : 99 ≡ witness_len (is_some p.pair) = rw e in
+      let k : 64 * place + 32 ≡ place * 64 + 32 = omega arith in
+      let y : part preimages (64 * place + 32) 32 ≡ pair_preimage (get_or (entries pair_len preimages) place []) =
       ap (λ (j : ℕ). part preimages j 32) k
-      ∙ sym (part_part preimages (p.pair_place * 64) 64 32 32 (omega arith))
-      ∙ ap (λ (t : List ℕ). part t 32 32) (sym (entry_at 64 preimages p.pair_place (omega arith))) in
-      rw (ap (λ (b : Bool). cond b (pair_preimage (get_or (entries pair_len preimages) p.pair_place [])) []) e, ← y)
-      (unlock_written (record { byte = p.byte; flag = p.flag }) (replicate 65 0) (part preimages (64 * p.pair_place + 32) 32) out 99 n refl
-      (part_length preimages (64 * p.pair_place + 32) 32 (omega arith)) r _ refl).1
+      ∙ sym (part_part preimages (place * 64) 64 32 32 (omega arith))
+      ∙ ap (λ (t : List ℕ). part t 32 32) (sym (entry_at 64 preimages place (omega arith))) in
+      rw (ap (preimage_of (entries pair_len preimages)) e, ← y)
+      (unlock_written (record { byte = p.byte; flag = is_some p.pair }) (replicate 65 0) (part preimages (64 * place + 32) 32) out 99 n refl
+      (part_length preimages (64 * place + 32) 32 (omega arith)) r _ refl).1
 
 -- ---- the new args
 
@@ -260,7 +260,7 @@ unlock_most false = omega arith
 
 module _ (h : ℕ) (args s preimages remote local : List ℕ) (p : Plan)
     (a : 36 ≤ length args) (d : length remote ≡ 36) (f : length local ≡ 36)
-    (g : (64 * p.pair_place + 64 ≤ length preimages) ⊎ (p.flag ≡ false)) where
+    (g : PairWhole preimages p.pair) where
   abbrev unlock : List ℕ
   unlock = plan_unlock (entries pair_len preimages) p
 
@@ -271,19 +271,18 @@ module _ (h : ℕ) (args s preimages remote local : List ℕ) (p : Plan)
   after = plan_after (tlcs h s) remote local p
 
   -- the unlock
-  unlock_size_lem : length unlock ≡ witness_len p.flag
-  unfolding plan_unlock
-  unlock_size_lem = go p.flag refl
+  unlock_size_lem : length unlock ≡ witness_len (is_some p.pair)
+  unfolding plan_unlock preimage_of
+  unlock_size_lem = go p.pair g
     where
-      go : (b : Bool) → p.flag ≡ b
-          → length (unlock_bytes (record { byte = p.byte; flag = b }) (replicate 65 0) (cond b (part (get_or (entries pair_len preimages) p.pair_place []) 32 32) [])) ≡ witness_len b
-      go true e =
-          let q = flagged g e in
-          let k : p.pair_place < length preimages / 64 = omega arith in
-          let l = part_length (part preimages (p.pair_place * 64) 64) 32 32 (omega (arith, part_length preimages (p.pair_place * 64) 64 (omega arith))) in
-          unlock_bytes_length (record { byte = p.byte; flag = true }) (replicate 65 0) (part (get_or (entries pair_len preimages) p.pair_place []) 32 32)
-          ∙ omega (arith, l, ap (λ (t : List ℕ). length (part t 32 32)) (entry_at 64 preimages p.pair_place k))
-      go false e = unlock_bytes_length (record { byte = p.byte; flag = false }) (replicate 65 0) []
+      go : (pair : Option ℕ) → PairWhole preimages pair
+          → length (unlock_bytes (record { byte = p.byte; flag = is_some pair }) (replicate 65 0) (preimage_of (entries pair_len preimages) pair)) ≡ witness_len (is_some pair)
+      go (Some place) q =
+          let k : place < length preimages / 64 = omega arith in
+          let l = part_length (part preimages (place * 64) 64) 32 32 (omega (arith, part_length preimages (place * 64) 64 (omega arith))) in
+          unlock_bytes_length (record { byte = p.byte; flag = true }) (replicate 65 0) (part (get_or (entries pair_len preimages) place []) 32 32)
+          ∙ omega (arith, l, ap (λ (t : List ℕ). length (part t 32 32)) (entry_at 64 preimages place k))
+      go None q = unlock_bytes_length (record { byte = p.byte; flag = false }) (replicate 65 0) []
 
   -- the new args
   new_size : (o : List ℕ) → length (new_args args o) ≡ 57 + (length args - 57)
@@ -304,7 +303,7 @@ module _ (h : ℕ) (args s preimages remote local : List ℕ) (p : Plan)
 
   -- and all
   pub joined_size : length (joined args (entries (tracked_len h) s) (entries pair_len preimages) remote local p)
-      ≡ witness_len p.flag + (73 + length (flatten (tlcs h s))) + (57 + (length args - 57))
+      ≡ witness_len (is_some p.pair) + (73 + length (flatten (tlcs h s))) + (57 + (length args - 57))
   unfolding joined
   joined_size =
       omega (
@@ -318,7 +317,7 @@ module _ (h : ℕ) (args s preimages remote local : List ℕ) (p : Plan)
 
   -- the four writes are one, each to the part behind the one before it, but the state after the unlock, which the state before it is written over
   pub joined_puts : (out o₁ y₂ y₃ o₄ hash : List ℕ) (at size : ℕ) → length (joined args (entries (tracked_len h) s) (entries pair_len preimages) remote local p) ≤ length out
-      → at ≡ witness_len p.flag
+      → at ≡ witness_len (is_some p.pair)
       → o₁ ≡ sets out 0 unlock
       → y₂ ≡ sets (take (length o₁ - at) (drop at o₁)) 0 after
       → hash ≡ ckb_hash after
@@ -355,53 +354,34 @@ within_pairs : (n m : ℕ) (c : Choice) → Within n m c → PairIn m c
 unfolding Within
 within_pairs n m c w = w.1
 
--- its byte is a byte
-pub plan_byte : (n : ℕ) (c : Choice) → n ≤ 254 → Below n c → (plan_of n c).byte ≤ 255
-unfolding plan_of choice_byte Below
-plan_byte n (ChoiceCase.Share SideCase.Remote) f b = omega arith
-plan_byte n (ChoiceCase.Share SideCase.Local) f b = omega arith
-plan_byte n (ChoiceCase.Tlc place WayCase.Timeout) f b = omega arith
-plan_byte n (ChoiceCase.Tlc place (WayCase.Preimage pair_place)) f b = omega arith
-
--- its pair is whole, where it counts
-pub plan_pair : (n : ℕ) (preimages : List ℕ) (c : Choice) → PairIn (length (entries pair_len preimages)) c
-    → (64 * (plan_of n c).pair_place + 64 ≤ length preimages) ⊎ ((plan_of n c).flag ≡ false)
+-- its pair is whole, if it has one
+pub plan_pair : (preimages : List ℕ) (c : Choice) → PairIn (length (entries pair_len preimages)) c → PairWhole preimages (plan_of c).pair
 unfolding plan_of
-plan_pair n preimages (ChoiceCase.Share SideCase.Remote) b = inr refl
-plan_pair n preimages (ChoiceCase.Share SideCase.Local) b = inr refl
-plan_pair n preimages (ChoiceCase.Tlc place WayCase.Timeout) b = inr refl
-plan_pair n preimages (ChoiceCase.Tlc place (WayCase.Preimage pair_place)) b = inl (omega (arith, entry_room 64 preimages pair_place (omega (arith, entries_length 64 preimages))))
-
--- the TLC that it settles has a mark
-pub plan_skip : (n : ℕ) (c : Choice) → n ≤ 254 → Below n c → (plan_of n c).skip ≤ 255
-unfolding plan_of Below
-plan_skip n (ChoiceCase.Share SideCase.Remote) f b = omega arith
-plan_skip n (ChoiceCase.Share SideCase.Local) f b = omega arith
-plan_skip n (ChoiceCase.Tlc place WayCase.Timeout) f b = omega arith
-plan_skip n (ChoiceCase.Tlc place (WayCase.Preimage pair_place)) f b = omega arith
+plan_pair preimages (ChoiceCase.Share SideCase.Remote) b = tt
+plan_pair preimages (ChoiceCase.Share SideCase.Local) b = tt
+plan_pair preimages (ChoiceCase.Tlc place WayCase.Timeout) b = tt
+plan_pair preimages (ChoiceCase.Tlc place (WayCase.Preimage pair_place)) b = omega (arith, entry_room 64 preimages pair_place (omega (arith, entries_length 64 preimages)))
 
 -- its unlock is the choice's
-plan_unlock_lem : (n : ℕ) (ps : List (List ℕ)) (c : Choice) → unlock_of ps c ≡ plan_unlock ps (plan_of n c)
-unfolding plan_of plan_unlock unlock_of choice_byte
-plan_unlock_lem n ps (ChoiceCase.Share SideCase.Remote) = refl
-plan_unlock_lem n ps (ChoiceCase.Share SideCase.Local) = refl
-plan_unlock_lem n ps (ChoiceCase.Tlc place WayCase.Timeout) = refl
-plan_unlock_lem n ps (ChoiceCase.Tlc place (WayCase.Preimage pair_place)) = refl
+plan_unlock_lem : (ps : List (List ℕ)) (c : Choice) → unlock_of ps c ≡ plan_unlock ps (plan_of c)
+unfolding plan_of plan_unlock preimage_of unlock_of choice_byte
+plan_unlock_lem ps (ChoiceCase.Share SideCase.Remote) = refl
+plan_unlock_lem ps (ChoiceCase.Share SideCase.Local) = refl
+plan_unlock_lem ps (ChoiceCase.Tlc place WayCase.Timeout) = refl
+plan_unlock_lem ps (ChoiceCase.Tlc place (WayCase.Preimage pair_place)) = refl
 
 -- so is the state after it
-plan_after_lem : (n : ℕ) (rs : List (List ℕ)) (remote local : List ℕ) (c : Choice) → n ≡ length rs → state_after rs remote local (takes c) ≡ plan_after rs remote local (plan_of n c)
-unfolding plan_of plan_after state_after takes
-plan_after_lem n rs remote local (ChoiceCase.Share SideCase.Remote) e =
-    ap (λ (l : List (List ℕ)). state_bytes l (share_left true remote) (share_left false local)) (keep_all 0 rs ∙ sym (keep_past n 0 rs (inr (omega arith))))
-plan_after_lem n rs remote local (ChoiceCase.Share SideCase.Local) e =
-    ap (λ (l : List (List ℕ)). state_bytes l (share_left false remote) (share_left true local)) (keep_all 0 rs ∙ sym (keep_past n 0 rs (inr (omega arith))))
-plan_after_lem n rs remote local (ChoiceCase.Tlc place WayCase.Timeout) e = refl
-plan_after_lem n rs remote local (ChoiceCase.Tlc place (WayCase.Preimage pair_place)) e = refl
+plan_after_lem : (rs : List (List ℕ)) (remote local : List ℕ) (c : Choice) → state_after rs remote local (takes c) ≡ plan_after rs remote local (plan_of c)
+unfolding plan_of plan_after state_after takes listed
+plan_after_lem rs remote local (ChoiceCase.Share SideCase.Remote) = refl
+plan_after_lem rs remote local (ChoiceCase.Share SideCase.Local) = refl
+plan_after_lem rs remote local (ChoiceCase.Tlc place WayCase.Timeout) = refl
+plan_after_lem rs remote local (ChoiceCase.Tlc place (WayCase.Preimage pair_place)) = refl
 
 -- ---- what is handed out
 
 module _ (h : ℕ) (args s preimages remote local : List ℕ) (choice : Choice) (n : ℕ) (p : Plan)
-    (m : n ≡ length (entries (tracked_len h) s)) (e : p ≡ plan_of n choice)
+    (m : n ≡ length (entries (tracked_len h) s)) (e : p ≡ plan_of choice)
     (a : 36 ≤ length args) (d : length remote ≡ 36) (f : length local ≡ 36)
     (b : Within (length (entries (tracked_len h) s)) (length (entries pair_len preimages)) choice) where
   abbrev es : List (List ℕ)
@@ -411,14 +391,14 @@ module _ (h : ℕ) (args s preimages remote local : List ℕ) (choice : Choice) 
   ps = entries pair_len preimages
 
   -- its pair is whole
-  planned_pair : (64 * p.pair_place + 64 ≤ length preimages) ⊎ (p.flag ≡ false)
-  planned_pair = rw e (plan_pair n preimages choice (within_pairs (length es) (length ps) choice b))
+  planned_pair : PairWhole preimages p.pair
+  planned_pair = rw e (plan_pair preimages choice (within_pairs (length es) (length ps) choice b))
 
   unlock_same : unlock_of ps choice ≡ plan_unlock ps p
-  unlock_same = rw e (plan_unlock_lem n ps choice)
+  unlock_same = rw e (plan_unlock_lem ps choice)
 
   after_same : state_after (tlcs h s) remote local (takes choice) ≡ plan_after (tlcs h s) remote local p
-  after_same = rw e (plan_after_lem n (tlcs h s) remote local choice (m ∙ sym (tracked_length es)))
+  after_same = rw e (plan_after_lem (tlcs h s) remote local choice)
 
   -- the three parts are those of the plan
   whole : unlock_of ps choice ++ state_bytes (tlcs h s) remote local ++ new_args args (state_after (tlcs h s) remote local (takes choice))
@@ -426,7 +406,7 @@ module _ (h : ℕ) (args s preimages remote local : List ℕ) (choice : Choice) 
   unfolding joined
   whole = rw (unlock_same, after_same)
 
-  module _ (last : Bool) (key : Key) (delay : Option Epoch) (place u k : ℕ) (eu : u ≡ witness_len p.flag) (ek : k ≡ 57 + (length args - 57)) (out : List ℕ) where
+  module _ (last : Bool) (key : Key) (delay : Option Epoch) (place u k : ℕ) (eu : u ≡ witness_len (is_some p.pair)) (ek : k ≡ 57 + (length args - 57)) (out : List ℕ) where
     abbrev size : ℕ
     size = u + (73 + n * record_len h) + k
 
@@ -476,16 +456,16 @@ module _ (h : ℕ) (args s preimages remote local : List ℕ) (choice : Choice) 
 pub after_small : (rs : List (List ℕ)) (remote local : List ℕ) (c : Choice) → length remote ≡ 36 → length local ≡ 36
     → length (state_after rs remote local (takes c)) ≤ length (state_bytes rs remote local)
 after_small rs remote local c e f =
-    rw (plan_after_lem (length rs) rs remote local c refl)
-    (omega (arith, state_size rs remote local e f, after_size rs remote local (plan_of (length rs) c) e f))
+    rw (plan_after_lem rs remote local c)
+    (omega (arith, state_size rs remote local e f, after_size rs remote local (plan_of c) e f))
 
 -- no unlock is shorter than one without a preimage
 pub unlock_least : (pairs : List (List ℕ)) (c : Choice) → 67 ≤ length (unlock_of pairs c)
 unfolding plan_unlock
 unlock_least pairs c =
-    let p = plan_of 0 c in
-    rw (plan_unlock_lem 0 pairs c)
-    (omega (arith, unlock_bytes_length (record { byte = p.byte; flag = p.flag }) (replicate 65 0) (cond p.flag (pair_preimage (get_or pairs p.pair_place [])) [])))
+    let p = plan_of c in
+    rw (plan_unlock_lem pairs c)
+    (omega (arith, unlock_bytes_length (record { byte = p.byte; flag = is_some p.pair }) (replicate 65 0) (preimage_of pairs p.pair)))
 
 -- the new args are as long, whatever they hash
 pub new_lengths : (args s t : List ℕ) → length (new_args args s) ≡ length (new_args args t)

@@ -12,11 +12,10 @@ use lib.ListN.{length, get_or, take, drop, replicate, length-append}
 use lib.Seq.{sets, sets-eq, drop-drop, take_at, drop_at}
 use borrow.Author.Tests.{lt-ltb, ltb-true, le-leb, leb-true, eq-eqb, eqb-true}
 use Rattle.std.specs.Prelude.{Option, Some, None, Result, Ok, Err}
+use Rattle.std.specs.declared.ops.ControlFlow.TheVariants.{Break}
 use Rattle.fiber_refusal.specs.declared.Refusal.{Refusal}
-use Rattle.fiber_refusal.specs.declared.Refusal.TheVariants.{TlcCut, UnlockCut, LengthZero, ArgsShort, NoDelay, TooManyTlcs, OutputShort, NotWell}
-use Rattle.fiber_choice.specs.declared.kinds.NoChoice.{NoChoice}
 use Rattle.fiber_choice.specs.declared.kinds.NoChoice.TheVariants as NoChoiceCase
-use Rattle.fiber_choice.specs.Answered.{Answer, decided, waiting, refused, Ready, begins, stops_waiting, stops}
+use Rattle.fiber_choice.specs.Answered.{Answer, decided, waiting, Ready, begins}
 use Rattle.fiber_bytes.specs.Bytes.{part}
 use Rattle.fiber_bytes.proofs.BytesLaws.{part_length, part_part}
 use Rattle.fiber_bytes.proofs.CaseLaws.{by_test, by_each, by_test₂}
@@ -43,13 +42,11 @@ use Rattle.fiber_choice.specs.declared.kinds.Key.TheVariants as KeyCase
 use Rattle.fiber_choice.specs.declared.kinds.Wait.{Wait}
 use Rattle.fiber_choice.specs.declared.kinds.Stage.{Stage}
 use Rattle.fiber_choice.specs.declared.kinds.Stage.TheVariants as StageCase
-use Rattle.fiber_choice.specs.declared.kinds.Step.{Step}
-use Rattle.fiber_choice.specs.declared.kinds.Step.TheVariants as StepCase
 use Rattle.fiber_choice.specs.declared.kinds.Decision.{Decision}
 use Rattle.fiber_choice.specs.Entries.{same, entries, tracked_len, tracked_records, pair_len}
 use Rattle.fiber_choice.specs.Request.{Request, settlement_tlcs, tracked_tlcs, pairs, valid_request, delay_of}
 use Rattle.fiber_choice.specs.FirstRecords.{first_records, first_remote, first_local, first_state}
-use Rattle.fiber_choice.specs.Walk.{our_share, Verdict, passed, timeout, ready, falls, step_of, onward, walk, or_share, our_side}
+use Rattle.fiber_choice.specs.Walk.{Step, pends, chooses, our_share, Verdict, passed, timeout, ready, falls, step_of, onward, walk, or_share, our_side}
 use Rattle.fiber_choice.specs.Verdicts.{dues_by, verdicts, may_share, walked}
 use Rattle.fiber_types.specs.Records.{Outcome}
 use Rattle.fiber_choice.specs.HandedOut.{choice_byte, unlock_of, takes, new_args, choice_amount, record_size, handed_out}
@@ -80,9 +77,9 @@ by_holds P false false f a b c = c
 -- A step at a place, and the same step later: a choice is the same; without one no more are pending than before, if no more were, or the
 -- TLC is taken by timeout.
 abbrev Steps : ℕ → ℕ → ℕ → Step → Step → Type 0
-Steps place p p' (StepCase.Pending left) (StepCase.Pending left') = p' ≤ p → left' ≤ left
-Steps place p p' (StepCase.Pending left) (StepCase.Chosen choice key) = choice ≡ ChoiceCase.Tlc place WayCase.Timeout
-Steps place p p' (StepCase.Chosen choice key) s = s ≡ StepCase.Chosen choice key
+Steps place p p' (pends left) (pends left') = p' ≤ p → left' ≤ left
+Steps place p p' (pends left) (Break c) = c.choice ≡ ChoiceCase.Tlc place WayCase.Timeout
+Steps place p p' (Break c) s = s ≡ Break c
 
 module _ (time time' : ℕ) (t : time ≤ time') where
   -- what has expired stays so
@@ -93,30 +90,25 @@ module _ (time time' : ℕ) (t : time ≤ time') where
   unfolding step_of
   step_later place p p' (passed why) = λ g. g
   step_later place p p' (timeout ms key) =
-      let taken : Step = StepCase.Chosen (ChoiceCase.Tlc place WayCase.Timeout) (KeyCase.Tlc key) in
-      by_holds (λ x y. Steps place p p' (cond x taken (StepCase.Pending p)) (cond y taken (StepCase.Pending p'))) (ltb ms time) (ltb ms time') (expired ms)
+      let taken : Step = chooses (ChoiceCase.Tlc place WayCase.Timeout) (KeyCase.Tlc key) in
+      by_holds (λ x y. Steps place p p' (cond x taken (pends p)) (cond y taken (pends p'))) (ltb ms time) (ltb ms time') (expired ms)
       refl refl (λ g. g)
   step_later place p p' (ready pair_place key) = refl
   step_later place p p' (falls ms) =
       by_holds (λ x y. p' ≤ p → cond y (p' - 1) p' ≤ cond x (p - 1) p) (ltb ms time) (ltb ms time') (expired ms)
       (λ g. omega arith) (λ g. omega arith) (λ g. g)
 
--- A TLC that its step chooses is chosen by it at every later time as well, in the same way and with the same key, however many are pending.
-pub later_time_step : (time time' place p p' : ℕ) (v : Verdict) (choice : Choice) (key : Key)
-    → time ≤ time' → step_of time place p v ≡ StepCase.Chosen choice key → step_of time' place p' v ≡ StepCase.Chosen choice key
-later_time_step time time' place p p' v choice key t e = subst (λ (s : Step). Steps place p p' s (step_of time' place p' v)) e (step_later time time' t place p p' v)
-
 -- ---- the walk
 
 -- a TLC that is chosen is behind a place
 abbrev Behind : ℕ → Step → Type 0
-Behind place (StepCase.Pending left) = Unit {0}
-Behind place (StepCase.Chosen choice key) = Before place choice
+Behind place (pends left) = Unit {0}
+Behind place (Break c) = Before place c.choice
 
 -- an earlier TLC by timeout, whatever is chosen behind it
-sooner_than : (place : ℕ) (key : Key) (s : Step) → Behind place s → Onward s (StepCase.Chosen (ChoiceCase.Tlc place WayCase.Timeout) key)
-sooner_than place key (StepCase.Pending left) f = waits
-sooner_than place key (StepCase.Chosen choice other) f = sooner f
+sooner_than : (place : ℕ) (key : Key) (s : Step) → Behind place s → Onward s (chooses (ChoiceCase.Tlc place WayCase.Timeout) key)
+sooner_than place key (pends left) f = waits
+sooner_than place key (Break c) f = sooner f
 
 module _ (for_remote may : Bool) where
   -- from a place on, our share behind the last
@@ -136,13 +128,13 @@ module _ (for_remote may : Bool) where
       one (falls ms) = tt
 
       go : (s : Step) → Behind place s → ((l : ℕ) → Behind place (rest time (k + 1) vs l)) → Behind place (or_share for_remote may (onward s (λ l. walk time (k + 1) l vs)))
-      go (StepCase.Pending l) f r = r l
-      go (StepCase.Chosen choice key) f r = f
+      go (pends l) f r = r l
+      go (Break c) f r = f
 
   rest_later : (time time' : ℕ) → time ≤ time' → (vs : List Verdict) (place p p' : ℕ) → p' ≤ p → Onward (rest time place vs p) (rest time' place vs p')
   unfolding walk onward or_share
   rest_later time time' t [] place p p' g =
-      by_holds (λ x y. Onward (cond (x && may) (our_share for_remote) (StepCase.Pending p)) (cond (y && may) (our_share for_remote) (StepCase.Pending p'))) (eqb p 0) (eqb p' 0)
+      by_holds (λ x y. Onward (cond (x && may) (our_share for_remote) (pends p)) (cond (y && may) (our_share for_remote) (pends p'))) (eqb p 0) (eqb p' 0)
       (λ e. eq-eqb p' 0 (omega (arith, eqb-true p 0 e)))
       (by_test₂ Onward may _ _ _ _ (λ _. stays) (λ _. waits)) waits waits
   rest_later time time' t (v ∷ vs) place p p' g =
@@ -151,9 +143,9 @@ module _ (for_remote may : Bool) where
     where
       go : (x y : Step) → Steps place p p' x y → ((l l' : ℕ) → l' ≤ l → Onward (rest time (place + 1) vs l) (rest time' (place + 1) vs l'))
           → Onward (or_share for_remote may (onward x (λ l. walk time (place + 1) l vs))) (or_share for_remote may (onward y (λ l. walk time' (place + 1) l vs)))
-      go (StepCase.Pending l) (StepCase.Pending l') s r = r l l' (s g)
-      go (StepCase.Pending l) (StepCase.Chosen choice key) s r = rw s (sooner_than place key (rest time (place + 1) vs l) (rest_behind time place vs (place + 1) l (omega arith)))
-      go (StepCase.Chosen choice key) y s r = rw s stays
+      go (pends l) (pends l') s r = r l l' (s g)
+      go (pends l) (Break c) s r = rw s (sooner_than place c.key (rest time (place + 1) vs l) (rest_behind time place vs (place + 1) l (omega arith)))
+      go (Break c) y s r = rw s stays
 
 -- A later time never turns a choice of the walk into a wait, in either settlement; in a first one the same parts of the delay are due.
 pub later_time_walk : (h : ℕ) (for_remote : Bool) (time time' : ℕ) (tlcs ps : List (List ℕ)) (stage : Stage) (ts : List (List ℕ))
@@ -423,8 +415,12 @@ Undecided (Ok d) = ⊥
 Undecided (Err why) = Unit {0}
 
 -- a step chooses one thing
-chosen_one : {x y : Choice} {a b : Key} → StepCase.Chosen x a ≡ StepCase.Chosen y b → x ≡ y
-chosen_one e = cc
+chosen_one : {x y : Choice} {a b : Key} → chooses x a ≡ chooses y b → x ≡ y
+chosen_one {x} e = ap choice_or e
+  where
+    choice_or : Step → Choice
+    choice_or (pends left) = x
+    choice_or (Break c) = c.choice
 
 module _ (q : Request) (is_later : Bool) (w : List ℕ) (c : Begun q is_later w) where
   -- the state before an unlock, after it, and all that is handed out
@@ -439,7 +435,7 @@ module _ (q : Request) (is_later : Bool) (w : List ℕ) (c : Begun q is_later w)
 
   -- A decision is that of the step at the time of the request; the output holds its three parts.
   record Handed (out : List ℕ) (d : Decision) (bytes : List ℕ) : Type 0 where
-    chosen : c.step q.time ≡ StepCase.Chosen d.choice d.key
+    chosen : c.step q.time ≡ chooses d.choice d.key
     amount : d.amount ≡ choice_amount (tracked_records (tracked_tlcs q)) c.remote c.local d.choice
     begins : d.place ≡ c.place d.choice
     ends : d.last ≡ c.last
@@ -456,8 +452,9 @@ module _ (q : Request) (is_later : Bool) (w : List ℕ) (c : Begun q is_later w)
 
     step_handed : (d : Decision) (s : Step) → c.step q.time ≡ s → (outcome_of s).answer ≡ decided d → Handed out d (outcome_of s).bytes
     unfolding or_wait handed_out
-    step_handed d (StepCase.Pending pending) f = λ e. absurd (subst Undecided e tt)
-    step_handed d (StepCase.Chosen choice key) f =
+    step_handed d (pends pending) f = λ e. absurd (subst Undecided e tt)
+    step_handed d (Break chosen) f =
+        let choice = chosen.choice in
         by_test (λ (o : Outcome Answer). o.answer ≡ decided d → Handed out d o.bytes) (leb (length (joined choice)) (length out)) _ _
         (λ g e.
         let r : 0 + length (joined choice) ≤ length out = omega (arith, leb-true (length (joined choice)) (length out) g) in
@@ -474,7 +471,7 @@ module _ (q : Request) (is_later : Bool) (w : List ℕ) (c : Begun q is_later w)
     handed d e = rw (c.comes q.time out) (step_handed d (c.step q.time) refl (rw (c.comes q.time out) at e))
 
     -- at any time, a choice that has room is handed out
-    step_room : (time : ℕ) (choice : Choice) (key : Key) → c.step time ≡ StepCase.Chosen choice key → length (joined choice) ≤ length out
+    step_room : (time : ℕ) (choice : Choice) (key : Key) → c.step time ≡ chooses choice key → length (joined choice) ≤ length out
         → (d : Decision) × (Decides (at_time q time) is_later w out d × ((d.choice ≡ choice) × (d.key ≡ key)))
     unfolding or_wait handed_out
     step_room time choice key f g = rw (c.comes time out, f, le-leb (length (joined choice)) (length out) g) (_, (refl, (refl, refl)))
@@ -500,7 +497,7 @@ module _ (q : Request) (is_later : Bool) (w : List ℕ) (c : Begun q is_later w)
         rw t.state (other_key_lem q.for_remote (tracked_records (tracked_tlcs q)) c.remote c.local c.remotes c.locals shares f) in
         t.ends ∙ c.lasts ∙ ap (λ (k : List ℕ). is_later && same k (replicate 20 0)) g
 
-    walk_named : d.last ≡ false → (stage : Stage) × (IsStage q is_later stage × (walked_by q stage ≡ StepCase.Chosen d.choice d.key))
+    walk_named : d.last ≡ false → (stage : Stage) × (IsStage q is_later stage × (walked_by q stage ≡ chooses d.choice d.key))
     walk_named e = (c.stage, (c.stage_is, sym (c.walks (sym t.ends ∙ e) q.time) ∙ t.chosen))
 
     last_share : d.last ≡ true → d.choice ≡ ChoiceCase.Share (our_side q.for_remote)
@@ -533,9 +530,9 @@ module _ (q : Request) (is_later : Bool) (w : List ℕ) (c : Begun q is_later w)
 
 -- the unlock is no longer
 abbrev Shorter : List (List ℕ) → Step → Step → Type 0
-Shorter ps (StepCase.Pending pending) s = Unit {0}
-Shorter ps (StepCase.Chosen x key) (StepCase.Pending pending) = ⊥
-Shorter ps (StepCase.Chosen x key) (StepCase.Chosen y other) = length (unlock_of ps y) ≤ length (unlock_of ps x)
+Shorter ps (pends pending) s = Unit {0}
+Shorter ps (Break x) (pends pending) = ⊥
+Shorter ps (Break x) (Break y) = length (unlock_of ps y.choice) ≤ length (unlock_of ps x.choice)
 
 shorter : (ps : List (List ℕ)) (x y : Step) → Onward x y → Shorter ps x y
 unfolding unlock_of
@@ -546,13 +543,14 @@ shorter ps x y (sooner {choice = choice} {place = place} b) =
 
 later_choice_lem : (q : Request) (is_later : Bool) (w : List ℕ) (c : Begun q is_later w) (out : List ℕ) (d : Decision) (bytes : List ℕ) (t : Handed q is_later w c out d bytes)
     (time : ℕ) → q.time ≤ time
-    → (d' : Decision) × (Decides (at_time q time) is_later w out d' × Onward (StepCase.Chosen d.choice d.key) (StepCase.Chosen d'.choice d'.key))
+    → (d' : Decision) × (Decides (at_time q time) is_later w out d' × Onward (chooses d.choice d.key) (chooses d'.choice d'.key))
 later_choice_lem q is_later w c out d bytes t time i = go (c.step time) refl (rw t.chosen at (c.moves q.time time (omega (arith, i))))
   where
-    go : (s : Step) → c.step time ≡ s → Onward (StepCase.Chosen d.choice d.key) s
-        → (d' : Decision) × (Decides (at_time q time) is_later w out d' × Onward (StepCase.Chosen d.choice d.key) (StepCase.Chosen d'.choice d'.key))
-    go (StepCase.Pending pending) f m = absurd (shorter (pairs q) _ _ m)
-    go (StepCase.Chosen choice key) f m =
+    go : (s : Step) → c.step time ≡ s → Onward (chooses d.choice d.key) s
+        → (d' : Decision) × (Decides (at_time q time) is_later w out d' × Onward (chooses d.choice d.key) (chooses d'.choice d'.key))
+    go (pends pending) f m = absurd (shorter (pairs q) _ _ m)
+    go (Break chosen) f m =
+        let choice = chosen.choice in
         let state = before q is_later w c in
         let now = unlock_of (pairs q) d.choice in
         let next = unlock_of (pairs q) choice in
@@ -568,7 +566,7 @@ later_choice_lem q is_later w c out d bytes t time i = go (c.step time) refl (rw
           length-append (next ++ state) (new choice),
           length-append next state,
         ) in
-        let r = step_room q is_later w c out time choice key f g in
+        let r = step_room q is_later w c out time choice chosen.key f g in
         (r.0, (r.1.0, rw (r.1.1.0, r.1.1.1) m))
 
 -- ---- all promises
@@ -632,9 +630,9 @@ promises q is_later w out d e =
 -- ---- all promises of a wait
 
 -- a step without a choice leaves some number pending
-unchosen_left : (s : Step) → Unchosen s → (left : ℕ) × (s ≡ StepCase.Pending left)
-unchosen_left (StepCase.Pending left) u = (left, refl)
-unchosen_left (StepCase.Chosen choice key) u = absurd u
+unchosen_left : (s : Step) → Unchosen s → (left : ℕ) × (s ≡ pends left)
+unchosen_left (pends left) u = (left, refl)
+unchosen_left (Break c) u = absurd u
 
 -- our share may be taken in every later settlement
 stage_first : (q : Request) (is_later : Bool) (stage : Stage) → IsStage q is_later stage → may_share stage ≡ false → is_later ≡ false
@@ -660,10 +658,10 @@ module _ (q : Request) (is_later : Bool) (w : List ℕ) (c : Begun q is_later w)
       go false f = refl
       go true f = absurd (subst Unchosen (c.shares f q.time) waits_by.0)
 
-  nothing : (left : ℕ) × (c.step q.time ≡ StepCase.Pending left)
+  nothing : (left : ℕ) × (c.step q.time ≡ pends left)
   nothing = unchosen_left (c.step q.time) waits_by.0
 
-  walks_nothing : walked_by q c.stage ≡ StepCase.Pending nothing.0
+  walks_nothing : walked_by q c.stage ≡ pends nothing.0
   walks_nothing = sym (c.walks not_last q.time) ∙ nothing.1
 
   standing_many : length (tlcs_before q is_later w) ≡ length tracked

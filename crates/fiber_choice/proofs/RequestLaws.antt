@@ -1,27 +1,25 @@
 -- Laws of `specs/Request.antt`: row 14 by its parts, in the order of the code, and the delay in the lock args.
 -- Assumes nothing.
-use Prim.Native.Nat.{ℕ, ◌+◌, ◌%◌, ◌≤◌, ◌<◌}
-use mathlib.Core.Path.{◌≡◌, refl, sym, ap, subst, ◌∙◌}
-use mathlib.Core.Bool.{Bool, true, false, cond, ◌&&◌, and-true, and-false, false≢true}
+use Prim.Native.Nat.{ℕ, ◌≤◌}
+use mathlib.Core.Path.{◌≡◌, refl, subst}
+use mathlib.Core.Bool.{Bool, true, false, cond, ◌&&◌, false≢true}
 use mathlib.Core.List.{List}
 use lib.Dec.{eqb, ltb}
 use lib.ListN.{length}
-use borrow.Author.Tests.{lt-ltb, le-ltb, eq-eqb, ne_eqb, ltb-false}
+use borrow.Author.Tests.{ltb-false}
 use Rattle.std.specs.Prelude.{Option, Some, None, Result, Ok, Err}
 use Rattle.fiber_refusal.specs.declared.Refusal.{Refusal}
-use Rattle.fiber_refusal.specs.declared.Refusal.TheVariants.{TlcCut, UnlockCut, LengthZero, ArgsShort, NoDelay, TooManyTlcs, OutputShort, NotWell}
+use Rattle.fiber_refusal.specs.declared.Refusal.TheVariants.{ArgsShort, NoDelay}
 use Rattle.fiber_bytes.specs.Bytes.{part, le}
 use Rattle.fiber_since.specs.declared.epoch.Epoch.{Epoch}
-use Rattle.fiber_since.specs.declared.since.Since.{Since}
 use Rattle.fiber_since.specs.declared.since.Metric.{Metric}
 use Rattle.fiber_since.specs.declared.since.Metric.TheVariants as MetricCase
 use Rattle.fiber_since.specs.Since.{by_metric, since}
 use Rattle.fiber_since.specs.Epoch.{epoch_of, within_bits}
 use Rattle.fiber_since.proofs.EpochLaws.{epoch_within}
 use Rattle.fiber_types.specs.HashLen.{valid_hash_len}
-use Rattle.fiber_choice.specs.Entries.{entries, whole_entries, all, settlement_len, valid_settlement, tracked_len, valid_tracked}
+use Rattle.fiber_choice.specs.Entries.{entries, whole_entries, all, settlement_len, valid_settlement}
 use Rattle.fiber_choice.specs.Request.{Request, valid_data, valid_request, delay_of}
-use Rattle.fiber_choice.proofs.HandedLaws.{tracked_size}
 
 -- ---- row 14
 
@@ -57,27 +55,6 @@ valid q e =
     second true false c d z = absurd (false≢true z)
 
 -- ---- the delay
-
-module _ (args : List ℕ) where
-  -- row 10
-  pub delay_short : length args < 36 → Err ArgsShort ≡ delay_of args
-  unfolding delay_of
-  delay_short h = rw (lt-ltb (length args) 36 h)
-
-  module _ (h : 36 ≤ length args) (raw : ℕ) (e : raw ≡ le (part args 20 8)) (s : Since) (f : s ≡ since raw) where
-    -- the since is the one that the definition reads
-    since_of : since (le (part args 20 8)) ≡ s
-    since_of = ap since (sym e) ∙ sym f
-
-    -- row 11, where it is not relative
-    pub delay_absolute : s.relative ≡ false → Err NoDelay ≡ delay_of args
-    unfolding delay_of
-    delay_absolute g = rw (le-ltb (length args) 36 h, since_of, g)
-
-    -- by its metric
-    pub delay_metric : s.relative ≡ true → (m : Option Metric) → s.metric ≡ m → by_metric (Ok (epoch_of s.value)) (Err NoDelay) (Err NoDelay) m ≡ delay_of args
-    unfolding delay_of
-    delay_metric g m k = rw (le-ltb (length args) 36 h, since_of, g, k)
 
 -- of a delay that is turned down nothing is said
 abbrev Delayed : List ℕ → Result Epoch Refusal → Type 0

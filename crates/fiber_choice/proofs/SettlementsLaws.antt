@@ -1,28 +1,28 @@
 -- Laws of `specs/Settlements.antt`: the records that stand and the tracked ones, what is handed out in a later and in a first settlement.
 -- Assumes nothing.
-use Prim.Native.Nat.{ℕ, zero, suc, ◌+◌, ◌-◌, ◌*◌, ◌/◌, ◌≤◌, ◌<◌}
-use native.Mathlib.Nat.{suc-mul, zero-mul, mul-le-mul_right, sub-zero, sub-eq-zero_of_le}
+use Prim.Native.Nat.{ℕ, zero, suc, ◌+◌, ◌-◌, ◌*◌, ◌≤◌, ◌<◌}
+use native.Mathlib.Nat.{suc-mul, zero-mul, mul-le-mul_right, sub-eq-zero_of_le}
 use native.Mathlib.Numerals.{add-one}
 use native.Mathlib.Omega.{arith}
 use mathlib.Core.Path.{◌≡◌, refl, sym, ap, ap₂, subst, ◌∙◌}
 use mathlib.Core.Bool.{Bool, true, false, cond, not, ◌&&◌, ◌||◌, false≢true}
 use mathlib.Core.List.{List, [], ◌∷◌}
-use mathlib.Core.Logic.{◌⊎◌, inl, inr}
 use lib.Dec.{eqb, leb}
-use lib.ListN.{length, get_or, take, drop, replicate, drop_of_length-le, length-drop}
+use lib.ListN.{length, get_or, take, drop, drop_of_length-le, length-drop}
 use lib.Seq.{drop-drop, take_all}
-use borrow.Author.Tests.{le-leb, lt-leb, leb-true, eqb-false}
+use borrow.Author.Tests.{leb-true, eqb-false}
 use Rattle.std.specs.Prelude.{Option, Some, None, Result, Ok, Err}
+use Rattle.std.specs.declared.ops.ControlFlow.TheVariants.{Break}
 use Rattle.fiber_refusal.specs.declared.Refusal.{Refusal}
-use Rattle.fiber_refusal.specs.declared.Refusal.TheVariants.{TlcCut, UnlockCut, LengthZero, ArgsShort, NoDelay, TooManyTlcs, OutputShort, NotWell}
+use Rattle.fiber_refusal.specs.declared.Refusal.TheVariants.{LengthZero, TooManyTlcs}
 use Rattle.fiber_witness.specs.declared.witness.WitnessLayout.{WitnessLayout}
-use Rattle.fiber_witness.specs.declared.unlocks.TakenUnlocks.{TakenUnlocks}
+use Rattle.fiber_witness.specs.declared.shares.UnlockedShares.{UnlockedShares}
 use Rattle.fiber_choice.specs.declared.kinds.NoChoice.{NoChoice}
 use Rattle.fiber_choice.specs.declared.kinds.NoChoice.TheVariants as NoChoiceCase
-use Rattle.fiber_choice.specs.Answered.{Answer, decided, waiting, refused, Ready, begins, stops_waiting, stops}
+use Rattle.fiber_choice.specs.Answered.{Answer, waiting, refused, Ready, begins, stops_waiting, stops}
 use Rattle.fiber_bytes.proofs.CaseLaws.{by_each}
 use Rattle.fiber_bytes.specs.Bytes.{part}
-use Rattle.fiber_bytes.proofs.BytesLaws.{part_behind, one_less}
+use Rattle.fiber_bytes.proofs.BytesLaws.{one_less}
 use Rattle.fiber_since.specs.declared.epoch.Epoch.{Epoch}
 use Rattle.fiber_since.specs.Epoch.{within_bits, scaled}
 use Rattle.fiber_since.specs.inner.Bounds as BoundsCase
@@ -34,22 +34,18 @@ use Rattle.fiber_witness.specs.inner.Marks.{Marks, marked}
 use Rattle.fiber_witness.specs.inner.Taking.{TakesAs}
 use Rattle.fiber_witness.proofs.WitnessLaws.{records_length}
 use Rattle.fiber_witness.proofs.UpdateLaws.{unlocks_come, All, takes_all, takes_faulty, marks_marked, keep_marked, keep_cons}
-use Rattle.fiber_choice.specs.declared.kinds.Side.{Side}
 use Rattle.fiber_choice.specs.declared.kinds.Way.{Way}
 use Rattle.fiber_choice.specs.declared.kinds.Choice.{Choice}
 use Rattle.fiber_choice.specs.declared.kinds.Choice.TheVariants as ChoiceCase
 use Rattle.fiber_choice.specs.declared.kinds.Key.{Key}
-use Rattle.fiber_choice.specs.declared.kinds.Key.TheVariants as KeyCase
 use Rattle.fiber_choice.specs.declared.kinds.Dues.{Dues}
 use Rattle.fiber_choice.specs.declared.kinds.Stage.TheVariants as StageCase
 use Rattle.fiber_choice.specs.declared.kinds.Wait.{Wait}
 use Rattle.fiber_choice.specs.declared.kinds.Wait.TheVariants as WaitCase
-use Rattle.fiber_choice.specs.declared.kinds.Step.{Step}
-use Rattle.fiber_choice.specs.declared.kinds.Step.TheVariants as StepCase
-use Rattle.fiber_choice.specs.Entries.{same, same_lists, entries, settlement_len, tracked_len, tracked_records}
-use Rattle.fiber_choice.specs.Request.{SettlementData, Request, settlement_tlcs, tracked_tlcs, pairs}
-use Rattle.fiber_choice.specs.FirstRecords.{hash_of, share_bytes, first_records, first_remote, first_local}
-use Rattle.fiber_choice.specs.Walk.{our_side, our_share}
+use Rattle.fiber_choice.specs.Entries.{same, same_lists, entries, tracked_len, tracked_records}
+use Rattle.fiber_choice.specs.Request.{Request, settlement_tlcs, tracked_tlcs, pairs}
+use Rattle.fiber_choice.specs.FirstRecords.{hash_of, first_records, first_remote, first_local}
+use Rattle.fiber_choice.specs.Walk.{Step, pends, chooses, our_share}
 use Rattle.fiber_choice.specs.Verdicts.{dues_by}
 use Rattle.fiber_choice.specs.Waits.{wait_number}
 use Rattle.fiber_types.specs.Records.{Outcome, Gives}
@@ -58,7 +54,7 @@ use Rattle.fiber_choice.specs.Settlements.{walked_by, wait_by, or_wait, if_ready
 use Rattle.fiber_choice.specs.inner.Plan.{Reaches, Within, Below}
 use Rattle.fiber_choice.specs.declared.kinds.Chosen.{Chosen}
 use Rattle.fiber_choice.specs.inner.Noting.{pick_of, Pick, picked, unpicked}
-use Rattle.fiber_choice.proofs.EntriesLaws.{lists_short, lists_length, record_at, tracked_length, entries_length, entry_left, lists_equal}
+use Rattle.fiber_choice.proofs.EntriesLaws.{lists_length, record_at, tracked_length, entry_left, lists_equal}
 use Rattle.fiber_choice.proofs.FirstRecordsLaws.{firsts_count}
 use Rattle.fiber_choice.proofs.WalkLaws.{StepWithin, walked_within, reaches_later, reaches_first}
 use Rattle.fiber_choice.proofs.WaitsLaws.{Unchosen}
@@ -82,7 +78,7 @@ module _ (r : Ready) (out : List ℕ) (o : Outcome Answer) where
 
 module _ (q : Request) (remote local : List ℕ) (last : Bool) (delay : Choice → Option Epoch) (place : Choice → ℕ) (wait : Wait) (out : List ℕ) (s : Step) where
   -- The wait is answered where nothing is chosen, and only there: what is chosen does not depend on which of the rows 22 to 25 it is.
-  pub nothing_chosen : (pending : ℕ) → s ≡ StepCase.Pending pending → Gives (or_wait q remote local last delay place wait out s) (waiting wait) out
+  pub nothing_chosen : (pending : ℕ) → s ≡ pends pending → Gives (or_wait q remote local last delay place wait out s) (waiting wait) out
   unfolding or_wait
   nothing_chosen pending e = (rw e, rw e)
 
@@ -96,12 +92,12 @@ module _ (q : Request) (remote local : List ℕ) (last : Bool) (delay : Choice �
       No-wait (Err (NoChoiceCase.Refused r)) = Unit {0}
 
       go : (s : Step) → (or_wait q remote local last delay place wait out s).answer ≡ waiting w → (Unchosen s) × (w ≡ wait)
-      go (StepCase.Pending pending) = λ e. (tt, cc)
-      go (StepCase.Chosen choice key) =
+      go (pends pending) = λ e. (tt, cc)
+      go (Break c) =
           by_each (λ (o : Outcome Answer). o.answer ≡ waiting w → ⊥ × (w ≡ wait)) (leb _ (length out)) _ _ (λ e. absurd (subst No-wait e tt)) (λ e. absurd (subst No-wait e tt))
 
   -- what is chosen
-  pub one_chosen : (choice : Choice) (key : Key) → s ≡ StepCase.Chosen choice key
+  pub one_chosen : (choice : Choice) (key : Key) → s ≡ chooses choice key
       → handed_out q.h q.args (tracked_tlcs q) (pairs q) remote local last choice key (delay choice) (place choice) out ≡ or_wait q remote local last delay place wait out s
   unfolding or_wait
   one_chosen choice key e = rw e
@@ -112,25 +108,25 @@ Chooses (Err wait) = ⊥
 
 -- a choice or a wait, as the code passes it on
 module _ (s : Step) (w : Wait) where
-  pub pick_wait : (x : Wait) → pick_of s w ≡ unpicked x → (pending : ℕ) × ((s ≡ StepCase.Pending pending) × (w ≡ x))
+  pub pick_wait : (x : Wait) → pick_of s w ≡ unpicked x → (pending : ℕ) × ((s ≡ pends pending) × (w ≡ x))
   unfolding pick_of
   pick_wait x = go s
     where
-      go : (s : Step) → pick_of s w ≡ unpicked x → (pending : ℕ) × ((s ≡ StepCase.Pending pending) × (w ≡ x))
-      go (StepCase.Pending pending) e = (pending, (refl, cc))
-      go (StepCase.Chosen choice key) e = absurd (subst Chooses e tt)
+      go : (s : Step) → pick_of s w ≡ unpicked x → (pending : ℕ) × ((s ≡ pends pending) × (w ≡ x))
+      go (pends pending) e = (pending, (refl, cc))
+      go (Break c) e = absurd (subst Chooses e tt)
 
-  pub pick_chosen : (choice : Choice) (key : Key) → pick_of s w ≡ picked choice key → s ≡ StepCase.Chosen choice key
+  pub pick_chosen : (choice : Choice) (key : Key) → pick_of s w ≡ picked choice key → s ≡ chooses choice key
   unfolding pick_of
   pick_chosen choice key = go s
     where
-      go : (s : Step) → pick_of s w ≡ picked choice key → s ≡ StepCase.Chosen choice key
-      go (StepCase.Pending pending) e = absurd (subst Chooses (sym e) tt)
-      go (StepCase.Chosen x y) e = ap₂ StepCase.Chosen (ap (λ (p : Pick). (of p).choice) e) (ap (λ (p : Pick). (of p).key) e)
+      go : (s : Step) → pick_of s w ≡ picked choice key → s ≡ chooses choice key
+      go (pends pending) e = absurd (subst Chooses (sym e) tt)
+      go (Break c) e = ap Break (ap of e)
         where
           of : Pick → Chosen
-          of (Ok c) = c
-          of (Err wait) = record { choice = x; key = y }
+          of (Ok d) = d
+          of (Err wait) = c
 
 -- ---- the records that stand, and the tracked ones
 
@@ -183,7 +179,7 @@ module _ (h : ℕ) (w : List ℕ) (n : ℕ) (marks : List Bool) (s : List ℕ) (
   unfolding tracked_records same_lists
   comparing_over g t ts e = rw e at (comparing_rest g)
 
-  module _ (g : i < n) where
+  module _ (l : length marks ≡ n) (g : i < n) where
     -- the record at place i
     stand_at : get_or (chunks (record_len h) n (drop 2 w)) i [] ≡ part w from (record_len h)
     stand_at =
@@ -196,7 +192,7 @@ module _ (h : ℕ) (w : List ℕ) (n : ℕ) (marks : List Bool) (s : List ℕ) (
         → stand h w n marks i ≡ cond b (stand h w n marks (i + 1)) (part w from (record_len h) ∷ stand h w n marks (i + 1))
     unfolding Marks
     stand_cons b m =
-        rw (sym (marks_marked marks i) ∙ m, stand_at) at
+        rw (sym (marks_marked marks i (omega (arith, l, g))) ∙ m, stand_at) at
         (keep_cons (marked marks) (chunks (record_len h) n (drop 2 w)) i (omega (arith, records_length (record_len h) n (drop 2 w))))
 
     -- one record further
@@ -250,12 +246,12 @@ module _ (n : ℕ) (marks : List Bool) (whole left i : ℕ) (c : get_or (unsettl
   unfolding unsettled
   placing_end h = rw (sub-eq-zero_of_le h) at c
 
-  module _ (h : i < n) where
+  module _ (l : length marks ≡ n) (h : i < n) where
     -- those that stand, by the mark of place i
     unsettled_cons : (b : Bool) → get_or marks i false ≡ b
         → unsettled (marked marks) i (n - i) ≡ cond b (unsettled (marked marks) (i + 1) (n - (i + 1))) (i ∷ unsettled (marked marks) (i + 1) (n - (i + 1)))
     unfolding unsettled Marks
-    unsettled_cons b m = rw (one_less n i h, sym (marks_marked marks i) ∙ m)
+    unsettled_cons b m = rw (one_less n i h, sym (marks_marked marks i (omega (arith, l, h))) ∙ m)
 
     -- one that is settled is passed
     pub placing_gone : get_or marks i false ≡ true → get_or (unsettled (marked marks) (i + 1) (n - (i + 1))) left 0 ≡ whole
@@ -296,42 +292,16 @@ place_small s n place h r e f g =
 pub lists_few : (tracked tlcs : List (List ℕ)) (k n : ℕ) → k ≡ length tlcs → k ≤ n → same_lists tlcs (tracked_records tracked) ≡ true → length tracked ≤ n
 lists_few tracked tlcs k n c f g = omega (arith, lists_length tlcs (tracked_records tracked) g, tracked_length tracked)
 
--- the places that are not settled depend on which are, and not on their order
-unsettled_same : (s t : List ℕ) → ((i : ℕ) → member i s ≡ member i t) → (i n : ℕ) → unsettled s i n ≡ unsettled t i n
+-- the places that are not settled depend on which of them are, and not on the order
+unsettled_same : (s t : List ℕ) (i n : ℕ) → ((j : ℕ) → j < i + n → member j s ≡ member j t) → unsettled s i n ≡ unsettled t i n
 unfolding unsettled
-unsettled_same s t e i zero = refl
-unsettled_same s t e i (suc n) = rw (e i, unsettled_same s t e (i + 1) n)
+unsettled_same s t i zero e = refl
+unsettled_same s t i (suc n) e = rw (e i (omega arith), unsettled_same s t (i + 1) n (λ j h. e j (omega (arith, h))))
 
 -- so marks leave what the list of settled places leaves
-pub unsettled_marked : (marks : List Bool) (s : List ℕ) → Marks marks s → (i n : ℕ) → unsettled (marked marks) i n ≡ unsettled s i n
+pub unsettled_marked : (marks : List Bool) (s : List ℕ) → Marks marks s → (n : ℕ) → n ≤ length marks → unsettled (marked marks) 0 n ≡ unsettled s 0 n
 unfolding Marks
-unsettled_marked marks s m = unsettled_same (marked marks) s (λ i. sym (marks_marked marks i) ∙ m i)
-
-module _ (q : Request) (tlcs : List (List ℕ)) (ours : List ℕ) (k : ℕ) (c : k ≡ length tlcs) where
-  -- row 12
-  pub later_many : 254 < k → stops TooManyTlcs ≡ later_ready q tlcs ours
-  unfolding later_ready
-  later_many f = over _ _ _ (omega (arith, f))
-    where
-      over : (m : ℕ) (x y : Ready) → m < k → y ≡ cond (leb (length tlcs) m) x y
-      over m x y g = rw (lt-leb (length tlcs) m (omega (arith, c)))
-
-  module _ (f : k ≤ 254) where
-    -- row 20
-    pub later_other : same_lists tlcs (tracked_records (tracked_tlcs q)) ≡ false → stops_waiting WaitCase.ListDiffers ≡ later_ready q tlcs ours
-    unfolding later_ready
-    later_other g = rw (← c, le-leb k 254 f, g)
-
-    module _ (g : same_lists tlcs (tracked_records (tracked_tlcs q)) ≡ true) where
-      -- row 21
-      pub later_key : same (take 20 ours) (hash_of q.settlement.local_key) ≡ false → stops_waiting WaitCase.NotOurShare ≡ later_ready q tlcs ours
-      unfolding later_ready
-      later_key d = rw (← c, le-leb k 254 f, g, d)
-
-      -- none of them
-      pub later_yes : same (take 20 ours) (hash_of q.settlement.local_key) ≡ true → begins ≡ later_ready q tlcs ours
-      unfolding later_ready
-      later_yes d = rw (← c, le-leb k 254 f, g, d)
+unsettled_marked marks s m n g = unsettled_same (marked marks) s 0 n (λ j h. sym (marks_marked marks j (omega (arith, h, g))) ∙ m j (omega (arith, h, g)))
 
 -- a row before the walk
 abbrev No : Ready → Type 0
@@ -371,11 +341,6 @@ later_ready_lem q tlcs ours = go (leb (length tlcs) 254) (same_lists tlcs (track
     go true false z p e = absurd (subst No e tt)
     go false y z p e = absurd (subst No e tt)
 
--- the test, as the code makes it
-pub last_by : (other l : List ℕ) (b : Bool) → l ≡ part other 0 20 → b ≡ same l (replicate 20 0) → b ≡ is_last other
-unfolding is_last
-last_by other l b e f = rw (← e, ← f) refl
-
 module _ (q : Request) (last : Bool) where
   -- the other side's share is gone
   pub choice_share : last ≡ true → our_share q.for_remote ≡ later_choice q last
@@ -388,9 +353,9 @@ module _ (q : Request) (last : Bool) where
   choice_walk g = rw g
 
   -- as the code passes them on
-  pub choice_picks_share : (side : Side) (w : Wait) → side ≡ our_side q.for_remote → last ≡ true → picked (ChoiceCase.Share side) KeyCase.Settlement ≡ pick_of (later_choice q last) w
+  pub choice_picks_share : (chosen : Chosen) (w : Wait) → Break chosen ≡ our_share q.for_remote → last ≡ true → Ok chosen ≡ pick_of (later_choice q last) w
   unfolding pick_of
-  choice_picks_share side w e g = rw (← choice_share g, e)
+  choice_picks_share chosen w e g = ap (λ (s : Step). pick_of s w) (e ∙ choice_share g)
 
   pub choice_picks_walk : (w : Wait) → last ≡ false → pick_of (walked_by q StageCase.Later) w ≡ pick_of (later_choice q last) w
   choice_picks_walk w g = ap (λ (s : Step). pick_of s w) (choice_walk g)
@@ -401,11 +366,6 @@ unfolding later_choice Within Below
 choice_within q last =
     by_each (StepWithin (length (tracked_tlcs q)) (length (settlement_tlcs q)) (length (pairs q))) last _ _ ((tt, tt), tt)
     (walked_within q.h q.for_remote q.time (settlement_tlcs q) (pairs q) StageCase.Later (length (tracked_tlcs q)) (reaches_later _ _) (tracked_tlcs q) refl)
-
--- one of two, as a test picks it
-pub by_flag : (b : Bool) (x y z : List ℕ) → ((b ≡ true) × (z ≡ x)) ⊎ ((b ≡ false) × (z ≡ y)) → z ≡ cond b x y
-by_flag b x y z (inl p) = rw p.0 p.1
-by_flag b x y z (inr p) = rw p.0 p.1
 
 -- of a state that the witness's unlocks leave, with what the code finds of it
 module _ (q : Request) (out : List ℕ) (tlcs : List (List ℕ)) (firsts remote local ours other : List ℕ)
@@ -435,7 +395,7 @@ module _ (q : Request) (out : List ℕ) (tlcs : List (List ℕ)) (firsts remote 
           (nothing_chosen q remote local last (λ c. None) (later_place q.h firsts) (wait_by q StageCase.Later) out (later_choice q last) p.0 p.1.0))
 
       module _ (choice : Choice) (key : Key) (g : s ≡ picked choice key) where
-        state_picked : later_choice q last ≡ StepCase.Chosen choice key
+        state_picked : later_choice q last ≡ chooses choice key
         state_picked = pick_chosen (later_choice q last) (wait_by q StageCase.Later) choice key (sym f ∙ g)
 
         pub state_within : Within (length (tracked_tlcs q)) (length (pairs q)) choice
@@ -461,29 +421,29 @@ module _ (q : Request) (w out : List ℕ) where
   later_whole l e = rw e
 
   -- with the answer of `take_unlocks`
-  module _ (n share_place start : ℕ) where
+  module _ (n share_place start : ℕ) (marks : List Bool) (l : length marks ≡ n) where
     -- row 5 or 6
-    pub later_faulty : (r : Refusal) → TakesAs (take_unlocks n share_place w none (places w start)) (Err r)
+    pub later_faulty : (r : Refusal) → TakesAs (take_unlocks n share_place w none (places w start)) (Err r) marks
         → Gives (later_of q w out (take_unlocks n share_place w none (places w start))) (refused r) out
     unfolding later_of
-    later_faulty r j = let f = takes_faulty r (unlocks_come n share_place w none (places w start)) j in (rw f, rw f)
+    later_faulty r j = let f = takes_faulty r marks (unlocks_come n share_place w none (places w start)) j in (rw f, rw f)
 
     -- every unlock is taken, and the marks say what was settled
-    pub later_fine : (v : TakenUnlocks) → TakesAs (take_unlocks n share_place w none (places w start)) (Ok v)
+    pub later_fine : (v : UnlockedShares) → TakesAs (take_unlocks n share_place w none (places w start)) (Ok v) marks
         → (x y : List ℕ) → x ≡ share_left v.remote (part w share_place 36) → y ≡ share_left v.local (part w (share_place + 36) 36)
-        → later_state q out (standing q.h w n (marked v.settled)) (unsettled (marked v.settled) 0 n) x y ≡ later_of q w out (take_unlocks n share_place w none (places w start))
+        → later_state q out (standing q.h w n (marked marks)) (unsettled (marked marks) 0 n) x y ≡ later_of q w out (take_unlocks n share_place w none (places w start))
     unfolding later_of standing
-    later_fine v j x y f g = go (takes_all v (unlocks_come n share_place w none (places w start)) j)
+    later_fine v j x y f g = go (takes_all v marks (unlocks_come n share_place w none (places w start)) j)
       where
-        go : All n share_place v.settled v.remote v.local (take_unlocks n share_place w none (places w start))
-            → later_state q out (standing q.h w n (marked v.settled)) (unsettled (marked v.settled) 0 n) x y ≡ later_of q w out (take_unlocks n share_place w none (places w start))
+        go : All n share_place marks v.remote v.local (take_unlocks n share_place w none (places w start))
+            → later_state q out (standing q.h w n (marked marks)) (unsettled (marked marks) 0 n) x y ≡ later_of q w out (take_unlocks n share_place w none (places w start))
         go t =
             rw (
               t.is,
               f,
               g,
-              keep_marked v.settled t.taken.settled t.says 0 (chunks (record_len q.h) n (drop 2 w)),
-              unsettled_marked v.settled t.taken.settled t.says 0 n,
+              keep_marked marks t.taken.settled t.says (chunks (record_len q.h) n (drop 2 w)) (omega (arith, l, records_length (record_len q.h) n (drop 2 w))),
+              unsettled_marked marks t.taken.settled t.says n (omega (arith, l)),
               t.remote_is,
               t.local_is,
             )
@@ -499,19 +459,7 @@ within_below n m k (ChoiceCase.Tlc place way) h w = omega (arith, w.0)
 -- ---- where its record is
 
 module _ (h : ℕ) (choice : Choice) where
-  -- a share has none
-  pub place_share : (side : Side) → choice ≡ ChoiceCase.Share side → 0 ≡ first_place h choice
-  unfolding first_place
-  place_share side e = rw e
-
   module _ (place : ℕ) (way : Way) where
-    -- the code writes the size of a tracked TLC in another way
-    pub place_tlc : choice ≡ ChoiceCase.Tlc place way → place * (98 + h) + 33 ≡ first_place h choice
-    unfolding first_place
-    place_tlc e =
-        let z : 98 + h ≡ tracked_len h = omega arith in
-        rw e (ap (λ (m : ℕ). place * m + 33) z)
-
     -- it begins within 255 of them
     pub place_few : (h ≤ 32) × Below 255 choice → choice ≡ ChoiceCase.Tlc place way → place * (98 + h) ≤ 255 * 130
     unfolding Below
@@ -523,34 +471,6 @@ module _ (h : ℕ) (choice : Choice) where
 -- so there are as many tracked TLCs as settlement TLCs
 pub same_many : (h : ℕ) (b : Bool) (us ts : List (List ℕ)) (s : Bool) → s ≡ same_lists (first_records h b us) (tracked_records ts) → s ≡ true → length us ≡ length ts
 same_many h b us ts s e f = sym (firsts_count h b us) ∙ lists_length _ _ (sym e ∙ f) ∙ tracked_length ts
-
-module _ (q : Request) (full : Epoch) (b : Bool) (e : b ≡ lengths_zero q.header q.current full) where
-  -- row 7
-  pub first_zero : b ≡ true → stops LengthZero ≡ first_ready q full
-  unfolding first_ready
-  first_zero f = rw (← e, f)
-
-  module _ (f : b ≡ false) where
-    -- row 12
-    pub first_many : 254 < length q.settlement.tlcs / 124 → stops TooManyTlcs ≡ first_ready q full
-    unfolding first_ready
-    first_many h =
-        let z : leb (length (settlement_tlcs q)) 254 ≡ false = lt-leb (length (settlement_tlcs q)) 254 (omega (arith, entries_length settlement_len q.settlement.tlcs)) in
-        rw (← e, f, z)
-
-    module _ (h : length q.settlement.tlcs / 124 ≤ 254) (s : Bool) (g : s ≡ same_lists (first_records q.h q.for_remote (settlement_tlcs q)) (tracked_records (tracked_tlcs q))) where
-      few : leb (length (settlement_tlcs q)) 254 ≡ true
-      few = le-leb (length (settlement_tlcs q)) 254 (omega (arith, entries_length settlement_len q.settlement.tlcs))
-
-      -- row 20
-      pub first_other : s ≡ false → stops_waiting WaitCase.ListDiffers ≡ first_ready q full
-      unfolding first_ready
-      first_other k = rw (← e, f, few, ← g, k)
-
-      -- none of them
-      pub first_yes : s ≡ true → begins ≡ first_ready q full
-      unfolding first_ready
-      first_yes k = rw (← e, f, few, ← g, k)
 
 -- no length is 0
 lengths_some : (h n full : Epoch) → lengths_zero h n full ≡ false → (h.length ≡ 0 → ⊥) × ((n.length ≡ 0 → ⊥) × (full.length ≡ 0 → ⊥))
@@ -602,17 +522,6 @@ module _ (q : Request) (full : Epoch) (out : List ℕ) (r : Ready) (e : r ≡ fi
   unfolding first
   first_begins f = ready_yes (first_ready q full) out _ (sym e ∙ f)
 
--- the shares, as the code makes them
-pub remote_by : (b : Bool) (d : SettlementData) (r : List ℕ) → r ≡ cond b (share_bytes d.remote_key d.remote_amount) (share_bytes d.local_key d.local_amount)
-    → r ≡ first_remote b d
-unfolding first_remote
-remote_by b d r e = e
-
-pub local_by : (b : Bool) (d : SettlementData) (r : List ℕ) → r ≡ cond b (share_bytes d.local_key d.local_amount) (share_bytes d.remote_key d.remote_amount)
-    → r ≡ first_local b d
-unfolding first_local
-local_by b d r e = e
-
 -- by the thirds of the delay, with what the code finds of them
 module _ (q : Request) (out : List ℕ) (full third two : Epoch) (x y : Result Epoch Refusal) (ex : x ≡ scaled full 1 3) (fx : x ≡ Ok third) (ey : y ≡ scaled full 2 3) (fy : y ≡ Ok two)
     (d : Dues) (ed : d ≡ dues_by q.header third two full q.current) (s : Pick) (es : s ≡ pick_of (walked_by q (StageCase.First d)) (wait_by q (StageCase.First d))) where
@@ -644,7 +553,7 @@ module _ (q : Request) (out : List ℕ) (full third two : Epoch) (x y : Result E
       rw (← p.1.1) (leaves_as _ _ thirds_as _ _ (nothing_chosen q remotely locally false scaled_delay (first_place q.h) waits out walks p.0 p.1.0))
 
   module _ (choice : Choice) (key : Key) (g : s ≡ picked choice key) where
-    thirds_picked : walks ≡ StepCase.Chosen choice key
+    thirds_picked : walks ≡ chooses choice key
     thirds_picked = pick_chosen walks waits choice key (sym es ∙ g)
 
     pub thirds_within : length (settlement_tlcs q) ≡ length (tracked_tlcs q) → Within (length (tracked_tlcs q)) (length (pairs q)) choice

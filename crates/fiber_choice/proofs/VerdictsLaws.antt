@@ -1,28 +1,27 @@
 -- Laws of `specs/Verdicts.antt`: a verdict at a time, and where its places lie.
 -- Assumes nothing.
-use Prim.Native.Nat.{ℕ, ◌-◌, ◌≤◌, ◌<◌}
+use Prim.Native.Nat.{ℕ, ◌≤◌, ◌<◌}
 use native.Mathlib.Omega.{arith}
-use mathlib.Core.Path.{◌≡◌, refl}
-use mathlib.Core.Bool.{Bool, true}
+use mathlib.Core.Path.{◌≡◌, refl, sym, ap, ◌∙◌}
+use mathlib.Core.Bool.{Bool, true, false, ◌&&◌, not, false≢true}
 use mathlib.Core.List.{List, []}
 use lib.Dec.{eqb}
-use lib.ListN.{length, get_or}
-use borrow.Author.Tests.{lt-ltb, le-ltb}
+use lib.ListN.{length, get_or, take, drop}
+use lib.Seq.{take-take}
+use borrow.Author.Tests.{le-ltb}
 use Rattle.std.specs.Prelude.{Option, Some, None}
 use Rattle.fiber_bytes.proofs.CaseLaws.{by_each}
-use Rattle.fiber_since.specs.declared.epoch.Epoch.{Epoch}
-use Rattle.fiber_since.specs.Epoch.{due}
 use Rattle.fiber_since.specs.Since.{absolute_expiry}
 use Rattle.fiber_types.specs.Records.{is_offered, tlc_at}
 use Rattle.fiber_choice.specs.declared.kinds.Dues.{Dues}
 use Rattle.fiber_choice.specs.declared.kinds.Cause.{Cause}
 use Rattle.fiber_choice.specs.declared.kinds.Stage.{Stage}
 use Rattle.fiber_choice.specs.declared.kinds.Stage.TheVariants as StageCase
-use Rattle.fiber_choice.specs.declared.kinds.Step.TheVariants as StepCase
-use Rattle.fiber_choice.specs.Entries.{received, expiry_ms, tracked_record}
+use Rattle.fiber_choice.specs.Entries.{same, received, hash, expiry_ms, local_key, tracked_record}
+use Rattle.fiber_choice.specs.FirstRecords.{hash_of}
 use Rattle.fiber_choice.specs.Preimages.{counting_pair}
-use Rattle.fiber_choice.specs.Walk.{timeout_kind, Verdict, passed, timeout, ready, falls, step_of}
-use Rattle.fiber_choice.specs.Verdicts.{key_of, by_pair, by_key, by_expiry, later_verdict, dues_by, first_verdict, verdict}
+use Rattle.fiber_choice.specs.Walk.{pends, timeout_kind, Verdict, passed, timeout, ready, falls, step_of}
+use Rattle.fiber_choice.specs.Verdicts.{is_key, key_of, by_pair, by_key, by_expiry, later_verdict, first_verdict, verdict}
 use Rattle.fiber_choice.specs.inner.Plan.{Reaches}
 use Rattle.fiber_choice.proofs.EntriesLaws.{FoundBelow, found_below}
 use Rattle.fiber_choice.proofs.PreimagesLaws.{counting_below}
@@ -30,29 +29,40 @@ use Rattle.fiber_choice.proofs.PreimagesLaws.{counting_below}
 -- ---- a verdict at a time
 
 module _ (time place pending : ℕ) where
-  pub step_passed : (why : Cause) → StepCase.Pending pending ≡ step_of time place pending (passed why)
+  pub step_passed : (why : Cause) → pends pending ≡ step_of time place pending (passed why)
   unfolding step_of
   step_passed why = refl
 
   -- before the expiry has passed
   module _ (ms : ℕ) (e : time ≤ ms) where
-    pub falls_before : StepCase.Pending pending ≡ step_of time place pending (falls ms)
+    pub falls_before : pends pending ≡ step_of time place pending (falls ms)
     unfolding step_of
     falls_before = rw (le-ltb ms time e)
 
-  -- and behind it
-  module _ (ms : ℕ) (e : ms < time) where
-    pub falls_behind : StepCase.Pending (pending - 1) ≡ step_of time place pending (falls ms)
-    unfolding step_of
-    falls_behind = rw (lt-ltb ms time e)
+-- ---- a key, as the code looks for it: as many bytes of a settlement TLC's hash as there are to compare
 
--- ---- dues
+module _ (start ours t : List ℕ) (f : length start ≤ 32) (n : ℕ) where
+  -- they are the hash's first ones
+  cut_is : n ≡ length start → take n (drop 18 t) ≡ take (length start) (hash t)
+  cut_is h = rw h (sym (take-take (length start) 32 (drop 18 t) f))
 
--- which parts are due, as the code asks for them
-pub dues_as : (h third two full n : Epoch) (a b c : Bool) → a ≡ due h third n → b ≡ due h two n → c ≡ due h full n
-    → record { third = a; two_thirds = b; full = c } ≡ dues_by h third two full n
-unfolding dues_by
-dues_as h third two full n a b c e f g = rw (e, f, g)
+  -- they differ
+  pub key_differs : true ≡ not (same (take n (drop 18 t)) start) → n ≡ length start → false ≡ is_key start ours t
+  unfolding is_key
+  key_differs e h = go (same (take (length start) (hash t)) start) (e ∙ ap (λ (l : List ℕ). not (same l start)) (cut_is h))
+    where
+      go : (b : Bool) → true ≡ not b → false ≡ (b && same (hash_of (local_key t)) ours)
+      go true k = absurd (false≢true (sym k))
+      go false k = refl
+
+  -- they are the same: the key decides
+  pub key_decides : false ≡ not (same (take n (drop 18 t)) start) → n ≡ length start → same (hash_of (local_key t)) ours ≡ is_key start ours t
+  unfolding is_key
+  key_decides e h = go (same (take (length start) (hash t)) start) (e ∙ ap (λ (l : List ℕ). not (same l start)) (cut_is h))
+    where
+      go : (b : Bool) → false ≡ not b → same (hash_of (local_key t)) ours ≡ (b && same (hash_of (local_key t)) ours)
+      go true k = refl
+      go false k = absurd (false≢true k)
 
 -- ---- places lie in their lists
 

@@ -5,24 +5,26 @@ use native.Mathlib.Omega.{arith}
 use mathlib.Core.Path.{◌≡◌, refl, sym, ap, subst, ◌∙◌}
 use mathlib.Core.Bool.{Bool, true, false, and-false, false≢true}
 use mathlib.Core.List.{List, [], ◌∷◌}
-use mathlib.Core.Logic.{◌⊎◌, inl, inr, ⊎_elim}
+use mathlib.Core.Logic.{⊎_elim}
 use lib.Dec.{eqb, ltb}
 use lib.ListN.{length, get_or}
 use borrow.Author.Tests.{eq-eqb, ne_eqb, lt-ltb, le-ltb}
 use Rattle.std.specs.Prelude.{Option, Some, None}
+use Rattle.std.specs.declared.ops.ControlFlow.{ControlFlow}
+use Rattle.std.specs.declared.ops.ControlFlow.TheVariants.{Continue, Break}
 use Rattle.fiber_bytes.proofs.CaseLaws.{by_each, by_test₂}
 use Rattle.fiber_choice.specs.declared.kinds.Cause.{Cause}
 use Rattle.fiber_choice.specs.declared.kinds.Cause.TheVariants as CauseCase
 use Rattle.fiber_choice.specs.declared.kinds.Wait.{Wait}
 use Rattle.fiber_choice.specs.declared.kinds.Wait.TheVariants as WaitCase
+use Rattle.fiber_choice.specs.declared.kinds.Chosen.{Chosen}
+use Rattle.fiber_choice.specs.declared.kinds.Noted.{Noted}
 use Rattle.fiber_choice.specs.declared.kinds.Dues.{Dues}
 use Rattle.fiber_choice.specs.declared.kinds.Stage.{Stage}
 use Rattle.fiber_choice.specs.declared.kinds.Stage.TheVariants as StageCase
-use Rattle.fiber_choice.specs.declared.kinds.Step.{Step}
-use Rattle.fiber_choice.specs.declared.kinds.Step.TheVariants as StepCase
 use Rattle.fiber_choice.specs.Entries.{received, expiry_ms}
 use Rattle.fiber_choice.specs.Preimages.{counting_pair}
-use Rattle.fiber_choice.specs.Walk.{timeout_kind, Verdict, passed, timeout, ready, falls, step_of, onward, walk}
+use Rattle.fiber_choice.specs.Walk.{Step, pends, timeout_kind, Verdict, passed, timeout, ready, falls, step_of, onward, walk}
 use Rattle.fiber_choice.specs.Verdicts.{by_pair, first_verdict, verdict, verdicts, may_share}
 use Rattle.fiber_choice.specs.Waits.{cause_number, wait_number, Status, still, gone, status_by, or_behind, first_pending}
 use Rattle.fiber_choice.specs.inner.Noting.{noted, onward_noting, noting, verdict_at, PendsFor, WaitsAt}
@@ -31,13 +33,13 @@ use Rattle.fiber_choice.specs.inner.Noting.{noted, onward_noting, noting, verdic
 
 -- a step that chooses nothing
 abbrev pub Unchosen : Step → Type 0
-Unchosen (StepCase.Pending left) = Unit {0}
-Unchosen (StepCase.Chosen choice key) = ⊥
+Unchosen (pends left) = Unit {0}
+Unchosen (Break c) = ⊥
 
 -- what a TLC does to the count: still pending it leaves it, else the count falls
 abbrev CountAs : ℕ → Status → Step → Type 0
-CountAs count (still cause) s = s ≡ StepCase.Pending count
-CountAs count gone s = Unchosen s → s ≡ StepCase.Pending (count - 1)
+CountAs count (still cause) s = s ≡ pends count
+CountAs count gone s = Unchosen s → s ≡ pends (count - 1)
 
 module _ (time place count : ℕ) where
   step_counts : (v : Verdict) → CountAs count (status_by time v) (step_of time place count v)
@@ -45,12 +47,12 @@ module _ (time place count : ℕ) where
   step_counts (passed why) = refl
   step_counts (timeout ms key) = by_test₂ (CountAs count) (ltb ms time) _ _ _ _ (λ _ u. absurd u) (λ _. refl)
   step_counts (ready pair_place key) = λ u. absurd u
-  step_counts (falls ms) = by_test₂ (λ l k. CountAs count l (StepCase.Pending k)) (ltb ms time) _ _ _ _ (λ _ u. refl) (λ _. refl)
+  step_counts (falls ms) = by_test₂ (λ l k. CountAs count l (pends k)) (ltb ms time) _ _ _ _ (λ _ u. refl) (λ _. refl)
 
-  pub still_pends : (v : Verdict) (cause : Cause) → status_by time v ≡ still cause → step_of time place count v ≡ StepCase.Pending count
+  pub still_pends : (v : Verdict) (cause : Cause) → status_by time v ≡ still cause → step_of time place count v ≡ pends count
   still_pends v cause e = subst (λ (l : Status). CountAs count l (step_of time place count v)) e (step_counts v)
 
-  pub gone_falls : (v : Verdict) → status_by time v ≡ gone → Unchosen (step_of time place count v) → step_of time place count v ≡ StepCase.Pending (count - 1)
+  pub gone_falls : (v : Verdict) → status_by time v ≡ gone → Unchosen (step_of time place count v) → step_of time place count v ≡ pends (count - 1)
   gone_falls v e = subst (λ (l : Status). CountAs count l (step_of time place count v)) e (step_counts v)
 
 -- what is chosen does not depend on the count
@@ -61,7 +63,7 @@ unchosen_any time place count other (timeout ms key) = by_test₂ (λ x y. Uncho
 unchosen_any time place count other (ready pair_place key) = λ u. u
 unchosen_any time place count other (falls ms) = λ u. tt
 
-pub count_one : {x y : ℕ} → StepCase.Pending x ≡ StepCase.Pending y → x ≡ y
+pub count_one : {x y : ℕ} → pends x ≡ pends y → x ≡ y
 count_one e = cc
 
 -- ---- the first that is pending
@@ -125,56 +127,59 @@ pending_numbers time place (v ∷ vs) = go (status_by time v) (pending_numbers t
 
 -- ---- as the code notes it
 
-module _ (place before left first : ℕ) where
-  pub noted_next : first ≡ place → ltb left before ≡ true → place + 1 ≡ noted place before left first
-  unfolding noted
-  noted_next e f = rw (eq-eqb first place e, f)
+-- what a walk comes to, without what it noted
+abbrev pub unnoted : ControlFlow Chosen Noted → Step
+unnoted (Continue n) = pends n.pending
+unnoted (Break chosen) = Break chosen
 
-  pub noted_same : ((first ≡ place → ⊥) ⊎ (ltb left before ≡ false)) → first ≡ noted place before left first
-  unfolding noted
-  noted_same (inl e) = rw (ne_eqb first place e)
-  noted_same (inr f) = rw (f, and-false (eqb first place))
+-- the place that it noted, where it chooses nothing
+abbrev pub NotesAt : ℕ → ControlFlow Chosen Noted → Type 0
+NotesAt k (Continue n) = n.first ≡ k
+NotesAt k (Break chosen) = Unit {0}
 
 -- it walks as the walk does
-pub noting_walks : (time place count first : ℕ) (vs : List Verdict) → (noting time place count first vs).step ≡ walk time place count vs
+pub noting_walks : (time place count first : ℕ) (vs : List Verdict) → unnoted (noting time place count first vs) ≡ walk time place count vs
 unfolding noting walk onward_noting onward
 noting_walks time place count first [] = refl
 noting_walks time place count first (v ∷ vs) = go (step_of time place count v) (λ left. noting_walks time (place + 1) left (noted place count left first) vs)
   where
-    go : (s : Step) → ((left : ℕ) → (noting time (place + 1) left (noted place count left first) vs).step ≡ walk time (place + 1) left vs)
-        → (onward_noting first s (λ left. noting time (place + 1) left (noted place count left first) vs)).step ≡ onward s (λ left. walk time (place + 1) left vs)
-    go (StepCase.Pending left) r = r left
-    go (StepCase.Chosen choice key) r = refl
+    go : (s : Step) → ((left : ℕ) → unnoted (noting time (place + 1) left (noted place count left first) vs) ≡ walk time (place + 1) left vs)
+        → unnoted (onward_noting s (λ left. noting time (place + 1) left (noted place count left first) vs)) ≡ onward s (λ left. walk time (place + 1) left vs)
+    go (pends left) r = r left
+    go (Break c) r = refl
 
 -- what was noted stays
-noting_behind : (time place count first : ℕ) (vs : List Verdict) → first < place → (noting time place count first vs).first ≡ first
+noting_behind : (time place count first : ℕ) (vs : List Verdict) → first < place → NotesAt first (noting time place count first vs)
 unfolding noting onward_noting noted
 noting_behind time place count first [] h = refl
 noting_behind time place count first (v ∷ vs) h = go (step_of time place count v) (λ left. noting_behind time (place + 1) left first vs (omega (arith, h)))
   where
-    go : (s : Step) → ((left : ℕ) → (noting time (place + 1) left first vs).first ≡ first)
-        → (onward_noting first s (λ left. noting time (place + 1) left (noted place count left first) vs)).first ≡ first
-    go (StepCase.Pending left) r = rw (ne_eqb first place (λ e. omega (arith, e, h))) (r left)
-    go (StepCase.Chosen choice key) r = refl
+    go : (s : Step) → ((left : ℕ) → NotesAt first (noting time (place + 1) left first vs))
+        → NotesAt first (onward_noting s (λ left. noting time (place + 1) left (noted place count left first) vs))
+    go (pends left) r = rw (ne_eqb first place (λ e. omega (arith, e, h))) (r left)
+    go (Break c) r = tt
 
 -- Where nothing is chosen and the count suffices, it notes the first that is pending.
 pub noting_lead : (time place count : ℕ) (vs : List Verdict) → length vs ≤ count → Unchosen (walk time place count vs)
-    → (noting time place count place vs).first ≡ place + lead time vs
+    → NotesAt (place + lead time vs) (noting time place count place vs)
 unfolding noting walk lead onward_noting onward noted lead_by
 noting_lead time place count [] h = λ u. omega arith
 noting_lead time place count (v ∷ vs) h = go (λ left f. noting_lead time (place + 1) left vs f) (step_of time place count v) (status_by time v) (step_counts time place count v)
   where
-    go : ((left : ℕ) → length vs ≤ left → Unchosen (walk time (place + 1) left vs) → (noting time (place + 1) left (place + 1) vs).first ≡ place + 1 + lead time vs)
+    go : ((left : ℕ) → length vs ≤ left → Unchosen (walk time (place + 1) left vs)
+        → NotesAt (place + 1 + lead time vs) (noting time (place + 1) left (place + 1) vs))
         → (s : Step) (l : Status) → CountAs count l s → Unchosen (onward s (λ left. walk time (place + 1) left vs))
-        → (onward_noting place s (λ left. noting time (place + 1) left (noted place count left place) vs)).first ≡ place + lead_by l (lead time vs)
-    go r (StepCase.Pending left) (still cause) e u =
+        → NotesAt (place + lead_by l (lead time vs)) (onward_noting s (λ left. noting time (place + 1) left (noted place count left place) vs))
+    go r (pends left) (still cause) e u =
+        let z : place ≡ place + 0 = omega arith in
         rw (le-ltb left count (omega (arith, count_one e)), and-false (eqb place place))
-        (noting_behind time (place + 1) left place vs (omega arith) ∙ omega arith)
-    go r (StepCase.Pending left) gone e u =
+        (subst (λ (k : ℕ). NotesAt k (noting time (place + 1) left place vs)) z (noting_behind time (place + 1) left place vs (omega arith)))
+    go r (pends left) gone e u =
         let f : left ≡ count - 1 = count_one (e tt) in
+        let z : place + 1 + lead time vs ≡ place + suc (lead time vs) = omega arith in
         rw (eq-eqb place place refl, lt-ltb left count (omega (arith, f, h)))
-        (r left (omega (arith, f, h)) u ∙ omega arith)
-    go r (StepCase.Chosen choice key) l e u = absurd u
+        (subst (λ (k : ℕ). NotesAt k (noting time (place + 1) left (place + 1) vs)) z (r left (omega (arith, f, h)) u))
+    go r (Break c) l e u = absurd u
 
 -- ---- where nothing is chosen
 
@@ -188,30 +193,30 @@ walk_unchosen time place count (v ∷ vs) u i h other = go (λ left. walk_unchos
     go : ((left : ℕ) → Unchosen (walk time (place + 1) left vs) → (i : ℕ) → i < length vs → (other : ℕ) → Unchosen (step_of time (place + 1 + i) other (verdict_at vs i)))
         → (s : Step) → step_of time place count v ≡ s → Unchosen (onward s (λ left. walk time (place + 1) left vs)) → (i : ℕ) → i < length (v ∷ vs)
         → Unchosen (step_of time (place + i) other (verdict_at (v ∷ vs) i))
-    go r (StepCase.Pending left) e u zero h =
+    go r (pends left) e u zero h =
         let p : place ≡ place + 0 = omega arith in
         subst (λ (k : ℕ). Unchosen (step_of time k other v)) p (unchosen_any time place count other v (subst Unchosen (sym e) tt))
-    go r (StepCase.Pending left) e u (suc i) h =
+    go r (pends left) e u (suc i) h =
         let p : place + 1 + i ≡ place + suc i = omega arith in
         subst (λ (k : ℕ). Unchosen (step_of time k other (verdict_at vs i))) p (r left u i (omega (arith, h)) other)
-    go r (StepCase.Chosen choice key) e u i h = absurd u
+    go r (Break c) e u i h = absurd u
 
 -- where none is pending, the count fell to the end
-pub walk_falls : (time place count : ℕ) (vs : List Verdict) → length vs ≤ count → lead time vs ≡ length vs → (left : ℕ) → walk time place count vs ≡ StepCase.Pending left
+pub walk_falls : (time place count : ℕ) (vs : List Verdict) → length vs ≤ count → lead time vs ≡ length vs → (left : ℕ) → walk time place count vs ≡ pends left
     → left + length vs ≡ count
 unfolding walk lead lead_by onward
 walk_falls time place count [] h g left e = omega (arith, count_one e)
 walk_falls time place count (v ∷ vs) h g left e =
     go (λ p f k. walk_falls time (place + 1) p vs f k left) (step_of time place count v) (status_by time v) (step_counts time place count v) g e
   where
-    go : ((p : ℕ) → length vs ≤ p → lead time vs ≡ length vs → walk time (place + 1) p vs ≡ StepCase.Pending left → left + length vs ≡ p)
-        → (s : Step) (l : Status) → CountAs count l s → lead_by l (lead time vs) ≡ length (v ∷ vs) → onward s (λ p. walk time (place + 1) p vs) ≡ StepCase.Pending left
+    go : ((p : ℕ) → length vs ≤ p → lead time vs ≡ length vs → walk time (place + 1) p vs ≡ pends left → left + length vs ≡ p)
+        → (s : Step) (l : Status) → CountAs count l s → lead_by l (lead time vs) ≡ length (v ∷ vs) → onward s (λ p. walk time (place + 1) p vs) ≡ pends left
         → left + length (v ∷ vs) ≡ count
     go r s (still cause) c f e = absurd (omega (arith, f))
-    go r (StepCase.Pending p) gone c f e =
+    go r (pends p) gone c f e =
         let k : p ≡ count - 1 = count_one (c tt) in
         omega (arith, h, k, r p (omega (arith, h, k)) (omega (arith, f)) e)
-    go r (StepCase.Chosen choice key) gone c f e = absurd (subst Unchosen (sym e) tt)
+    go r (Break chosen) gone c f e = absurd (subst Unchosen (sym e) tt)
 
 -- ---- the verdicts of TLCs
 

@@ -1,66 +1,47 @@
 -- Laws of `specs/Walk.antt`: the loop over the TLCs, for both settlements, and what a walk can choose.
 -- Assumes nothing.
 use Prim.Native.Nat.{ℕ, ◌+◌, ◌-◌, ◌/◌, ◌≤◌, ◌<◌}
-use native.Mathlib.Nat.{zero-mul, eq-or-lt_of_le}
+use native.Mathlib.Nat.{eq-or-lt_of_le}
 use native.Mathlib.Omega.{arith}
 use mathlib.Core.Path.{◌≡◌, refl, sym, ap, subst, ◌∙◌}
-use mathlib.Core.Bool.{Bool, true, false, cond, ◌&&◌, and-false, false≢true}
+use mathlib.Core.Bool.{Bool, true, false, cond, ◌&&◌, false≢true}
 use mathlib.Core.List.{List, [], ◌∷◌}
 use mathlib.Core.Logic.{inl, inr, ⊎_elim}
 use lib.Dec.{eqb, ltb}
 use lib.ListN.{length, get_or, drop}
-use borrow.Author.Tests.{eq-eqb, ne_eqb}
-use Rattle.std.specs.Prelude.{Ok, Err}
-use Rattle.fiber_bytes.specs.Bytes.{part}
+use borrow.Author.Tests.{eq-eqb, eqb-true}
+use Rattle.std.specs.Prelude.{Ok}
+use Rattle.std.specs.declared.ops.ControlFlow.{ControlFlow}
+use Rattle.std.specs.declared.ops.ControlFlow.TheVariants.{Continue, Break}
 use Rattle.fiber_bytes.proofs.CaseLaws.{by_each, by_test}
-use Rattle.fiber_choice.specs.declared.kinds.Side.{Side}
-use Rattle.fiber_choice.specs.declared.kinds.Choice.{Choice}
-use Rattle.fiber_choice.specs.declared.kinds.Choice.TheVariants as ChoiceCase
-use Rattle.fiber_choice.specs.declared.kinds.Key.{Key}
-use Rattle.fiber_choice.specs.declared.kinds.Key.TheVariants as KeyCase
 use Rattle.fiber_choice.specs.declared.kinds.Stage.{Stage}
 use Rattle.fiber_choice.specs.declared.kinds.Stage.TheVariants as StageCase
-use Rattle.fiber_choice.specs.declared.kinds.Step.{Step}
-use Rattle.fiber_choice.specs.declared.kinds.Step.TheVariants as StepCase
 use Rattle.fiber_choice.specs.declared.kinds.Noted.{Noted}
+use Rattle.fiber_choice.specs.declared.kinds.Chosen.{Chosen}
 use Rattle.fiber_choice.specs.declared.kinds.Cause.{Cause}
 use Rattle.fiber_choice.specs.declared.kinds.Wait.{Wait}
 use Rattle.fiber_choice.specs.declared.kinds.Wait.TheVariants as WaitCase
 use Rattle.fiber_choice.specs.declared.kinds.Dues.{Dues}
-use Rattle.fiber_witness.proofs.UpdateLaws.{part_between}
 use Rattle.fiber_choice.specs.Entries.{entries}
-use Rattle.fiber_choice.specs.Walk.{our_side, our_share, Verdict, passed, timeout, ready, falls, step_of, onward, walk, or_share}
+use Rattle.fiber_choice.specs.Walk.{Step, pends, our_share, Verdict, passed, timeout, ready, falls, step_of, onward, walk, or_share}
 use Rattle.fiber_choice.specs.Verdicts.{verdict, verdicts, may_share, walked}
 use Rattle.fiber_choice.specs.Waits.{still, status_by, first_pending}
 use Rattle.fiber_choice.specs.inner.Plan.{Reaches, ReachesAll, Within, Below}
-use Rattle.fiber_choice.specs.inner.Noting.{noted, onward_noting, noting, verdict_at, WaitsAt, pick_of, Pick, picked, unpicked}
+use Rattle.fiber_choice.specs.inner.Noting.{noted, onward_noting, noting, verdict_at, WaitsAt, pick_of, unpicked}
 use Rattle.fiber_choice.specs.Promises.{KeyIn}
 use Rattle.fiber_choice.proofs.EntriesLaws.{EntryLeft, entry_left, entries_length}
 use Rattle.fiber_choice.proofs.VerdictsLaws.{VerdictWithin, verdict_within}
-use Rattle.fiber_choice.proofs.WaitsLaws.{lead, Unchosen, count_one, still_pends, gone_falls, Leads, leads, noting_walks, noting_lead, walk_unchosen, walk_falls, verdicts_length, verdicts_at, share_stays}
+use Rattle.fiber_choice.proofs.WaitsLaws.{lead, Unchosen, count_one, still_pends, gone_falls, Leads, leads, unnoted, NotesAt, noting_walks, noting_lead, walk_unchosen, walk_falls, verdicts_length, verdicts_at, share_stays}
 
 -- ---- the loop
 
--- pending falls by no more than 1
-abbrev pub Falls : ℕ → Step → Type 0
-Falls pending (StepCase.Pending left) = pending ≤ left + 1
-Falls pending (StepCase.Chosen choice key) = Unit {0}
-
-step_falls : (time place pending : ℕ) (v : Verdict) → Falls pending (step_of time place pending v)
-unfolding step_of
-step_falls time place pending (passed why) = omega arith
-step_falls time place pending (timeout ms key) = by_each (Falls pending) (ltb ms time) _ _ tt (omega arith)
-step_falls time place pending (ready pair_place key) = tt
-step_falls time place pending (falls ms) = by_each (λ (n : ℕ). pending ≤ n + 1) (ltb ms time) _ _ (omega arith) (omega arith)
-
 module _ (h : ℕ) (for_remote : Bool) (time : ℕ) (tlcs ps : List (List ℕ)) (stage : Stage) where
   -- the walk over tracked TLCs, from a place on with so many pending, as the code notes the first that is
-  abbrev pub note_from : ℕ → ℕ → ℕ → List (List ℕ) → Noted
+  abbrev pub note_from : ℕ → ℕ → ℕ → List (List ℕ) → ControlFlow Chosen Noted
   note_from place pending first ts = noting time place pending first (verdicts h for_remote tlcs ps stage place ts)
 
-  -- At a place, with the tracked TLCs that are left: to walk on from here gives what the whole walk gives. Of those all are pending.
-  pub record Walking (size : ℕ) (s : List ℕ) (whole : Noted) (pending first : ℕ) (es : List (List ℕ)) (place : ℕ) : Type 0 where
-    pub many : length es ≤ pending
+  -- At a place, with the tracked TLCs that are left: to walk on from here gives what the whole walk gives.
+  pub record Walking (size : ℕ) (s : List ℕ) (whole : ControlFlow Chosen Noted) (pending first : ℕ) (es : List (List ℕ)) (place : ℕ) : Type 0 where
     pub left : es ≡ drop place (entries size s)
     pub rest : note_from place pending first es ≡ whole
 
@@ -69,71 +50,44 @@ module _ (h : ℕ) (for_remote : Bool) (time : ℕ) (tlcs ps : List (List ℕ)) 
       → Walking size' s (note_from 0 (length (entries size' s)) 0 (entries size' s)) (length s / size) 0 es 0
   walking_start size size' s es e f =
       let n : length s / size ≡ length (entries size' s) = ap (λ (k : ℕ). length s / k) e ∙ sym (entries_length size' s) in
-      record { many = omega (arith, n, ap length f); left = f; rest = rw (n, f) }
+      record { left = f; rest = rw (n, f) }
 
-  module _ (size : ℕ) (s : List ℕ) (whole : Noted) (pending first : ℕ) (es : List (List ℕ)) (place : ℕ) (c : Walking size s whole pending first es place) where
+  module _ (size : ℕ) (s : List ℕ) (whole : ControlFlow Chosen Noted) (pending first : ℕ) (es : List (List ℕ)) (place : ℕ)
+      (c : Walking size s whole pending first es place) where
     -- none was chosen
-    pub walking_end : es ≡ [] → record { step = StepCase.Pending pending; first = first } ≡ whole
+    pub walking_end : es ≡ [] → Continue (record { pending = pending; first = first }) ≡ whole
     unfolding noting verdicts
     walking_end e = rw e at c.rest
 
     module _ (t : List ℕ) (ts : List (List ℕ)) (e : es ≡ t ∷ ts) where
-      -- the TLC is whole, and one of those that are pending
+      -- the TLC is whole
       pub walking_at : EntryLeft size s place t ts
       walking_at = entry_left size s place es t ts c.left e
 
-      pub walking_some : 0 < pending
-      walking_some = omega (arith, c.many, ap length e)
-
       module _ (w : Step) (f : w ≡ step_of time place pending (verdict h for_remote tlcs ps stage place t)) where
         -- one is chosen
-        pub walking_chosen : (choice : Choice) (key : Key) → w ≡ StepCase.Chosen choice key → record { step = StepCase.Chosen choice key; first = first } ≡ whole
+        pub walking_chosen : (chosen : Chosen) → w ≡ Break chosen → Break chosen ≡ whole
         unfolding noting verdicts onward_noting
-        walking_chosen choice key k = rw (e, sym f ∙ k) at c.rest
+        walking_chosen chosen k = rw (e, sym f ∙ k) at c.rest
 
         -- on to the next
-        pub walking_on : (left next : ℕ) → w ≡ StepCase.Pending left → next ≡ noted place pending left first → Walking size s whole left next ts (place + 1)
+        pub walking_on : (left next : ℕ) → w ≡ pends left → next ≡ noted place pending left first → Walking size s whole left next ts (place + 1)
         unfolding noting verdicts onward_noting
-        walking_on left next k n = record {
-          many = omega (arith, c.many, ap length e, subst (Falls pending) (sym f ∙ k) (step_falls time place pending (verdict h for_remote tlcs ps stage place t)));
-          left = walking_at.rest;
-          rest = rw n (rw (e, sym f ∙ k) at c.rest);
-        }
+        walking_on left next k n = record { left = walking_at.rest; rest = rw n (rw (e, sym f ∙ k) at c.rest) }
 
 -- ---- behind it
 
 module _ (for_remote may : Bool) (s : Step) where
-  -- none chosen and none pending
-  pub share_taken : (side : Side) → side ≡ our_side for_remote → (pending : ℕ) → s ≡ StepCase.Pending pending → pending ≡ 0 → may ≡ true
-      → StepCase.Chosen (ChoiceCase.Share side) KeyCase.Settlement ≡ or_share for_remote may s
-  unfolding or_share onward
-  share_taken side o pending e f g = rw (e, eq-eqb pending 0 f, g, o)
-
-  -- some pending
-  pub share_pending : (pending : ℕ) → s ≡ StepCase.Pending pending → (pending ≡ 0 → ⊥) → StepCase.Pending pending ≡ or_share for_remote may s
-  unfolding or_share onward
-  share_pending pending e f = rw (e, ne_eqb pending 0 f)
-
-  -- or it may not be taken yet
-  pub share_early : (pending : ℕ) → s ≡ StepCase.Pending pending → may ≡ false → StepCase.Pending pending ≡ or_share for_remote may s
-  unfolding or_share onward
-  share_early pending e f = rw (e, f, and-false (eqb pending 0))
-
-  -- one chosen
-  pub share_behind : (choice : Choice) (key : Key) → s ≡ StepCase.Chosen choice key → StepCase.Chosen choice key ≡ or_share for_remote may s
-  unfolding or_share onward
-  share_behind choice key e = rw e
-
   -- where nothing is named, nothing was chosen, and our share may not be taken or some are pending
-  pub share_waits : (left : ℕ) → or_share for_remote may s ≡ StepCase.Pending left → (s ≡ StepCase.Pending left) × ((left ≡ 0) × (may ≡ true) → ⊥)
+  pub share_waits : (left : ℕ) → or_share for_remote may s ≡ pends left → (s ≡ pends left) × ((left ≡ 0) × (may ≡ true) → ⊥)
   unfolding or_share onward
   share_waits left = go s
     where
-      go : (s : Step) → onward s (λ pending. cond (eqb pending 0 && may) (our_share for_remote) (StepCase.Pending pending)) ≡ StepCase.Pending left
-          → (s ≡ StepCase.Pending left) × ((left ≡ 0) × (may ≡ true) → ⊥)
-      go (StepCase.Chosen choice key) = λ e. absurd (subst Unchosen (sym e) tt)
-      go (StepCase.Pending pending) =
-          by_test (λ (x : Step). x ≡ StepCase.Pending left → (StepCase.Pending pending ≡ StepCase.Pending left) × ((left ≡ 0) × (may ≡ true) → ⊥)) (eqb pending 0 && may) _ _
+      go : (s : Step) → onward s (λ pending. cond (eqb pending 0 && may) (our_share for_remote) (pends pending)) ≡ pends left
+          → (s ≡ pends left) × ((left ≡ 0) × (may ≡ true) → ⊥)
+      go (Break c) = λ e. absurd (subst Unchosen (sym e) tt)
+      go (pends pending) =
+          by_test (λ (x : Step). x ≡ pends left → (pends pending ≡ pends left) × ((left ≡ 0) × (may ≡ true) → ⊥)) (eqb pending 0 && may) _ _
           (λ f e. absurd (subst Unchosen (sym e) tt))
           (λ f e. (e, λ z. false≢true (sym f ∙ rw (eq-eqb pending 0 (count_one e ∙ z.0), z.1) refl)))
 
@@ -150,8 +104,8 @@ reaches_first d n k e place g = omega arith
 
 -- Among n TLCs, k settlement TLCs and m pairs. Where nothing is chosen nothing is said.
 abbrev pub StepWithin : ℕ → ℕ → ℕ → Step → Type 0
-StepWithin n k m (StepCase.Pending pending) = Unit {0}
-StepWithin n k m (StepCase.Chosen choice key) = Within n m choice × KeyIn k key
+StepWithin n k m (pends pending) = Unit {0}
+StepWithin n k m (Break c) = Within n m c.choice × KeyIn k c.key
 
 module _ (n k m : ℕ) where
   -- one step chooses its own place
@@ -164,13 +118,13 @@ module _ (n k m : ℕ) where
 
   onward_within : (w : Step) (rest : ℕ → Step) → StepWithin n k m w → ((p : ℕ) → StepWithin n k m (rest p)) → StepWithin n k m (onward w rest)
   unfolding onward
-  onward_within (StepCase.Pending left) rest f g = g left
-  onward_within (StepCase.Chosen choice key) rest f g = f
+  onward_within (pends left) rest f g = g left
+  onward_within (Break c) rest f g = f
 
   share_within : (for_remote may : Bool) (s : Step) → StepWithin n k m s → StepWithin n k m (or_share for_remote may s)
   unfolding or_share onward Within Below
-  share_within for_remote may (StepCase.Pending pending) f = by_each (StepWithin n k m) (eqb pending 0 && may) _ _ ((tt, tt), tt) tt
-  share_within for_remote may (StepCase.Chosen choice key) f = f
+  share_within for_remote may (pends pending) f = by_each (StepWithin n k m) (eqb pending 0 && may) _ _ ((tt, tt), tt) tt
+  share_within for_remote may (Break c) f = f
 
 module _ (h : ℕ) (for_remote : Bool) (time : ℕ) (tlcs ps : List (List ℕ)) (stage : Stage) (n : ℕ) (r : ReachesAll stage n (length tlcs)) where
   walk_within : (ts : List (List ℕ)) (place pending : ℕ) → place + length ts ≤ n
@@ -219,9 +173,9 @@ module _ (h : ℕ) (for_remote : Bool) (time : ℕ) (tlcs ps : List (List ℕ)) 
   first : Leads time 0 vs (lead time vs) (first_pending time 0 vs)
   first = leads time 0 vs
 
-  module _ (left : ℕ) (e : walked h for_remote time tlcs ps stage ts ≡ StepCase.Pending left) where
+  module _ (left : ℕ) (e : walked h for_remote time tlcs ps stage ts ≡ pends left) where
     -- the walk chose nothing, and our share may not be taken or some are left
-    unchosen : (walk time 0 (length ts) vs ≡ StepCase.Pending left) × ((left ≡ 0) × (may_share stage ≡ true) → ⊥)
+    unchosen : (walk time 0 (length ts) vs ≡ pends left) × ((left ≡ 0) × (may_share stage ≡ true) → ⊥)
     unfolding walked
     unchosen = share_waits for_remote (may_share stage) (walk time 0 (length ts) vs) left e
 
@@ -273,39 +227,53 @@ module _ (h : ℕ) (for_remote : Bool) (time : ℕ) (tlcs ps : List (List ℕ)) 
           let p = first.some leads_there.0 in
           ap (status_by time) (sym (verdict_at_lem place waits_stands) ∙ ap (verdict_at vs) leads_there.1) ∙ p.1.0 ∙ ap still (cause_of (sym p.1.1 ∙ f))
 
-      pub waits_pends : (count : ℕ) → count_at place count ≡ StepCase.Pending count
+      pub waits_pends : (count : ℕ) → count_at place count ≡ pends count
       waits_pends count = still_pends time place count _ cause waits_cause
 
-      pub waits_fell : (i : ℕ) → i < place → (count : ℕ) → count_at i count ≡ StepCase.Pending (count - 1)
+      pub waits_fell : (i : ℕ) → i < place → (count : ℕ) → count_at i count ≡ pends (count - 1)
       waits_fell i g count =
           let b : i < length ts = omega (arith, g, waits_stands) in
           gone_falls time i count _ (ap (status_by time) (sym (verdict_at_lem i b)) ∙ first.before i (omega (arith, g, leads_there.1))) (steps_unchosen i b count)
 
 -- ---- as the code puts them together
 
-module _ (h : ℕ) (for_remote : Bool) (time : ℕ) (tlcs ps : List (List ℕ)) (stage : Stage) (ts : List (List ℕ)) (found : Noted)
-    (e : found ≡ note_from h for_remote time tlcs ps stage 0 (length ts) 0 ts) (may : Bool) (m : may ≡ may_share stage) (s : Step) (f : s ≡ or_share for_remote may found.step) where
+module _ (h : ℕ) (for_remote : Bool) (time : ℕ) (tlcs ps : List (List ℕ)) (stage : Stage) (ts : List (List ℕ)) (found : ControlFlow Chosen Noted)
+    (e : found ≡ note_from h for_remote time tlcs ps stage 0 (length ts) 0 ts) where
   abbrev wait_for : Wait
   wait_for = first_pending time 0 (verdicts h for_remote tlcs ps stage 0 ts)
 
-  walked_as : s ≡ walked h for_remote time tlcs ps stage ts
-  unfolding walked
-  walked_as =
-      f ∙ ap (λ (b : Bool). or_share for_remote b found.step) m
-      ∙ ap (or_share for_remote (may_share stage)) (ap (λ (x : Noted). x.step) e ∙ noting_walks time 0 (length ts) 0 (verdicts h for_remote tlcs ps stage 0 ts))
+  -- what was found, without what it noted, is the walk
+  walks_as : unnoted found ≡ walk time 0 (length ts) (verdicts h for_remote tlcs ps stage 0 ts)
+  walks_as = ap unnoted e ∙ noting_walks time 0 (length ts) 0 (verdicts h for_remote tlcs ps stage 0 ts)
 
-  pub picked_chosen : (choice : Choice) (key : Key) → s ≡ StepCase.Chosen choice key → picked choice key ≡ pick_of (walked h for_remote time tlcs ps stage ts) wait_for
-  unfolding pick_of
-  picked_chosen choice key g = rw (← walked_as, g)
+  -- one was chosen
+  pub picked_chosen : (chosen : Chosen) → found ≡ Break chosen → Ok chosen ≡ pick_of (walked h for_remote time tlcs ps stage ts) wait_for
+  unfolding pick_of walked or_share onward
+  picked_chosen chosen f = rw (← walks_as, f)
 
-  module _ (left : ℕ) (g : s ≡ StepCase.Pending left) where
-    pub picked_wait : (w : Wait) → w ≡ wait_for → unpicked w ≡ pick_of (walked h for_remote time tlcs ps stage ts) wait_for
-    unfolding pick_of
-    picked_wait w k = rw (← walked_as, g, k)
+  module _ (n : Noted) (f : found ≡ Continue n) where
+    -- none chosen and none pending: our share, where it may be taken
+    pub picked_share : n.pending ≡ 0 → may_share stage ≡ true → (chosen : Chosen) → Break chosen ≡ our_share for_remote
+        → Ok chosen ≡ pick_of (walked h for_remote time tlcs ps stage ts) wait_for
+    unfolding pick_of walked or_share onward
+    picked_share z m chosen o = rw (← walks_as, f, eq-eqb n.pending 0 z, m) (ap (λ (s : Step). pick_of s wait_for) o)
+
+    module _ (m : (n.pending ≡ 0) × (may_share stage ≡ true) → ⊥) where
+      -- else it waits
+      pub picked_wait : (w : Wait) → w ≡ wait_for → unpicked w ≡ pick_of (walked h for_remote time tlcs ps stage ts) wait_for
+      unfolding pick_of walked or_share onward
+      picked_wait w k = rw (← walks_as, f, no_share, k)
+        where
+          no_share : (eqb n.pending 0 && may_share stage) ≡ false
+          no_share = go (eqb n.pending 0) (may_share stage) refl refl
+            where
+              go : (x y : Bool) → eqb n.pending 0 ≡ x → may_share stage ≡ y → (x && y) ≡ false
+              go true true p q = absurd (m (eqb-true n.pending 0 p, q))
+              go true false p q = refl
+              go false y p q = refl
 
     -- the place that was noted is that of the wait
-    pub picked_place : WaitsAt time (verdicts h for_remote tlcs ps stage 0 ts) found.first wait_for
-    unfolding walked
+    pub picked_place : WaitsAt time (verdicts h for_remote tlcs ps stage 0 ts) n.first wait_for
     picked_place = go (lead time us) first.low first.none first.some k
       where
         us : List Verdict
@@ -314,19 +282,19 @@ module _ (h : ℕ) (for_remote : Bool) (time : ℕ) (tlcs ps : List (List ℕ)) 
         first : Leads time 0 us (lead time us) (first_pending time 0 us)
         first = leads time 0 us
 
-        u : walk time 0 (length ts) us ≡ StepCase.Pending left
-        u = (share_waits for_remote (may_share stage) (walk time 0 (length ts) us) left (sym walked_as ∙ g)).0
+        u : walk time 0 (length ts) us ≡ pends n.pending
+        u = sym walks_as ∙ ap unnoted f
 
-        k : found.first ≡ lead time us
+        k : n.first ≡ lead time us
         k =
-            ap (λ (x : Noted). x.first) e
-            ∙ noting_lead time 0 (length ts) us (omega (arith, verdicts_length h for_remote tlcs ps stage 0 ts)) (subst Unchosen (sym u) tt)
+            subst (NotesAt (0 + lead time us)) (sym e ∙ f)
+            (noting_lead time 0 (length ts) us (omega (arith, verdicts_length h for_remote tlcs ps stage 0 ts)) (subst Unchosen (sym u) tt))
             ∙ omega arith
 
-        go : (n : ℕ) → n ≤ length us → (n ≡ length us → wait_for ≡ WaitCase.DelayNotDue)
-            → (n < length us → (cause : Cause) × ((status_by time (verdict_at us n) ≡ still cause) × (wait_for ≡ WaitCase.Tlc (0 + n) cause))) → found.first ≡ n
-            → WaitsAt time us found.first wait_for
-        go n low none some p =
+        go : (k : ℕ) → k ≤ length us → (k ≡ length us → wait_for ≡ WaitCase.DelayNotDue)
+            → (k < length us → (cause : Cause) × ((status_by time (verdict_at us k) ≡ still cause) × (wait_for ≡ WaitCase.Tlc (0 + k) cause))) → n.first ≡ k
+            → WaitsAt time us n.first wait_for
+        go k low none some p =
             ⊎_elim (λ x. inl (p ∙ x, none x))
             (λ x. inr ((some x).0, (omega (arith, p, x), (rw p (some x).1.0, (some x).1.1 ∙ ap (λ (i : ℕ). WaitCase.Tlc i (some x).0) (omega (arith, p))))))
             (eq-or-lt_of_le low)

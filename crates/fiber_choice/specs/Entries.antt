@@ -1,5 +1,5 @@
 -- The lists that the host lends, flat, one entry behind the other; docs/SCOPE.md, "What the host lends".
-use Rattle.std.specs.Prelude.{ℕ, ◌+◌, ◌/◌, ◌%◌, Bool, true, false, cond, ◌&&◌, List, [], ◌∷◌, map, length, get_or, drop, eqb, leb, Option, bytes_eq}
+use Rattle.std.specs.Prelude.{ℕ, ◌+◌, ◌/◌, ◌%◌, Bool, true, false, ◌&&◌, List, [], ◌∷◌, map, length, get_or, drop, eqb, leb, Option, bytes_eq}
 use Rattle.std.specs.List.{list_all, position_from}
 use Rattle.fiber_bytes.specs.Bytes.{part, le}
 use Rattle.fiber_witness.specs.Witness.{record_len, chunks}

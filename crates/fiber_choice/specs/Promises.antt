@@ -13,8 +13,6 @@ use Rattle.fiber_choice.specs.declared.kinds.Choice.{Choice}
 use Rattle.fiber_choice.specs.declared.kinds.Choice.TheVariants as ChoiceCase
 use Rattle.fiber_choice.specs.declared.kinds.Key.{Key}
 use Rattle.fiber_choice.specs.declared.kinds.Key.TheVariants as KeyCase
-use Rattle.fiber_choice.specs.declared.kinds.Step.{Step}
-use Rattle.fiber_choice.specs.declared.kinds.Step.TheVariants as StepCase
 use Rattle.fiber_choice.specs.declared.kinds.Stage.{Stage}
 use Rattle.fiber_choice.specs.declared.kinds.Stage.TheVariants as StageCase
 use Rattle.fiber_choice.specs.declared.kinds.Cause.{Cause}
@@ -26,7 +24,7 @@ use Rattle.fiber_choice.specs.declared.kinds.NoChoice.TheVariants as NoChoiceCas
 use Rattle.fiber_choice.specs.Answered.{Answer, decided, waiting}
 use Rattle.fiber_choice.specs.Entries.{same, tracked_records}
 use Rattle.fiber_choice.specs.FirstRecords.{first_records, first_state}
-use Rattle.fiber_choice.specs.Walk.{our_side, our_share, Verdict, step_of}
+use Rattle.fiber_choice.specs.Walk.{Step, pends, chooses, our_side, our_share, Verdict, step_of}
 use Rattle.fiber_choice.specs.Verdicts.{dues_by, verdict, may_share}
 use Rattle.fiber_choice.specs.Waits.{wait_number, wait_place, still, status_by}
 use Rattle.fiber_choice.specs.Settlements.{walked_by, wait_by, is_last}
@@ -84,10 +82,10 @@ Before place (ChoiceCase.Tlc chosen way) = place < chosen
 
 -- What is chosen now, and what later: the same, or an earlier TLC by timeout. Nothing may become anything.
 pub data Onward : Step → Step → Type 0 where
-  waits : {pending : ℕ} {s : Step} → Onward (StepCase.Pending pending) s
-  stays : {choice : Choice} {key : Key} → Onward (StepCase.Chosen choice key) (StepCase.Chosen choice key)
+  waits : {pending : ℕ} {s : Step} → Onward (pends pending) s
+  stays : {choice : Choice} {key : Key} → Onward (chooses choice key) (chooses choice key)
   sooner : {choice : Choice} {key : Key} {place : ℕ} {other : Key} → Before place choice
-      → Onward (StepCase.Chosen choice key) (StepCase.Chosen (ChoiceCase.Tlc place WayCase.Timeout) other)
+      → Onward (chooses choice key) (chooses (ChoiceCase.Tlc place WayCase.Timeout) other)
 
 -- ---- the walk of a request
 
@@ -130,7 +128,7 @@ pub record Promised (q : Request) (is_later : Bool) (w out bytes : List ℕ) (d 
   pub last_is : (shares : ℕ) → shares + 72 ≡ d.state_len → d.last ≡ (is_later && same (other_key q shares (part bytes d.unlock_len d.state_len)) (replicate 20 0))
   pub last_ours : d.last ≡ true → d.choice ≡ ChoiceCase.Share (our_side q.for_remote)
   -- in any other settlement it is what the walk names
-  pub walk_names : d.last ≡ false → (stage : Stage) × (IsStage q is_later stage × (walked_by q stage ≡ StepCase.Chosen d.choice d.key))
+  pub walk_names : d.last ≡ false → (stage : Stage) × (IsStage q is_later stage × (walked_by q stage ≡ chooses d.choice d.key))
   -- key and pair lie in the lists that the host lent
   pub in_their_lists : KeyIn (length (settlement_tlcs q)) d.key × PairIn (length (pairs q)) d.choice
   -- the update takes the unlock over the state, whatever the count byte in front; an output as long as the state has room for what it
@@ -150,7 +148,7 @@ pub record Promised (q : Request) (is_later : Bool) (w out bytes : List ℕ) (d 
   -- later time turns it into a wait or a refusal, for want of room neither. All else is the same, the epochs too.
   pub later_time : (time : ℕ) → q.time ≤ time
       → (d' : Decision)
-      × (Decides (at_time q time) is_later w out d' × Onward (StepCase.Chosen d.choice d.key) (StepCase.Chosen d'.choice d'.key))
+      × (Decides (at_time q time) is_later w out d' × Onward (chooses d.choice d.key) (chooses d'.choice d'.key))
 
 abbrev pub Promises : Type 0
 Promises =
@@ -169,7 +167,7 @@ pub record Waiting (q : Request) (is_later : Bool) (w : List ℕ) (wait : Wait) 
   pub stage_is : IsStage q is_later stage
   -- the walk names nothing: so many are pending
   pub pending : ℕ
-  pub names_nothing : walked_by q stage ≡ StepCase.Pending pending
+  pub names_nothing : walked_by q stage ≡ pends pending
   -- with every output, which stays as it was
   pub any_output : (out : List ℕ) → choice_of q is_later w out ≡ unwritten (waiting wait) out
   -- 22: it is a first settlement without TLCs whose full delay isn't due
@@ -179,8 +177,8 @@ pub record Waiting (q : Request) (is_later : Bool) (w : List ℕ) (wait : Wait) 
   pub standing_tracked : tlcs_before q is_later w ≡ tracked_records (tracked_tlcs q)
   pub named_stands : (place : ℕ) (cause : Cause) → wait ≡ WaitCase.Tlc place cause → place < length (tlcs_before q is_later w)
   pub named_cause : (place : ℕ) (cause : Cause) → wait ≡ WaitCase.Tlc place cause → (wait_place wait ≡ place) × (status_by q.time (verdict_of q stage place) ≡ still cause)
-  pub named_pends : (place : ℕ) (cause : Cause) → wait ≡ WaitCase.Tlc place cause → (count : ℕ) → step_at q stage place count ≡ StepCase.Pending count
-  pub fell_before : (place : ℕ) (cause : Cause) → wait ≡ WaitCase.Tlc place cause → (i : ℕ) → i < place → (count : ℕ) → step_at q stage i count ≡ StepCase.Pending (count - 1)
+  pub named_pends : (place : ℕ) (cause : Cause) → wait ≡ WaitCase.Tlc place cause → (count : ℕ) → step_at q stage place count ≡ pends count
+  pub fell_before : (place : ℕ) (cause : Cause) → wait ≡ WaitCase.Tlc place cause → (i : ℕ) → i < place → (count : ℕ) → step_at q stage i count ≡ pends (count - 1)
 
 abbrev pub WaitPromises : Type 0
 WaitPromises = (q : Request) (is_later : Bool) (w out : List ℕ) (wait : Wait) → WaitsFor q is_later w out wait → Waiting q is_later w wait
@@ -195,9 +193,9 @@ FromWalk (Err (NoChoiceCase.Refused r)) = ⊥
 
 -- For every output: where nothing is named the answer is the wait, by one of 22 to 25, and where something is named it is none.
 pub record Exactly (q : Request) (is_later : Bool) (w : List ℕ) (stage : Stage) : Type 0 where
-  pub waits : (pending : ℕ) → named q is_later w stage ≡ StepCase.Pending pending → (out : List ℕ) → choice_of q is_later w out ≡ unwritten (waiting (wait_by q stage)) out
+  pub waits : (pending : ℕ) → named q is_later w stage ≡ pends pending → (out : List ℕ) → choice_of q is_later w out ≡ unwritten (waiting (wait_by q stage)) out
   pub numbers : (22 ≤ wait_number (wait_by q stage)) × (wait_number (wait_by q stage) ≤ 25)
-  pub waits_not : (choice : Choice) (key : Key) → named q is_later w stage ≡ StepCase.Chosen choice key → (out : List ℕ) (wait : Wait)
+  pub waits_not : (choice : Choice) (key : Key) → named q is_later w stage ≡ chooses choice key → (out : List ℕ) (wait : Wait)
       → (choice_of q is_later w out).answer ≡ waiting wait → ⊥
 
 -- no row before the walk applies: some output is answered from it

@@ -8,7 +8,7 @@ use Rattle.fiber_since.specs.Since.{by_metric, since}
 use Rattle.fiber_since.specs.Epoch.{epoch_of, within_bits}
 use Rattle.fiber_types.specs.declared.tlc.Amount.{Amount}
 use Rattle.fiber_types.specs.HashLen.{valid_hash_len}
-use Rattle.fiber_choice.specs.declared.request.SettlementData.{SettlementData as Lent}
+use Rattle.fiber_choice.specs.declared.request.SettlementData.{SettlementData as LentData}
 use Rattle.fiber_choice.specs.declared.request.Request.{Request as Asked}
 use Rattle.fiber_choice.specs.Entries.{entries, whole_entries, all, settlement_len, valid_settlement, tracked_len, valid_tracked, pair_len}
 
@@ -33,7 +33,7 @@ pub record Request : Type 0 where
   pub preimages : List ℕ
 
 -- as it comes to the operation
-abbrev pub data_of : Lent → SettlementData
+abbrev pub data_of : LentData → SettlementData
 data_of d = record {
   tlcs = d.tlcs.now;
   local_amount = d.local_amount;

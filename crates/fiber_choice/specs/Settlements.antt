@@ -1,5 +1,6 @@
 -- The two settlements; docs/SCOPE.md, "Later settlement" and "First settlement", with rows 7, 12 and 20 to 25 of its table.
 use Rattle.std.specs.Prelude.{ℕ, zero, suc, ◌+◌, ◌*◌, Bool, false, cond, ◌||◌, List, [], ◌∷◌, length, get_or, take, replicate, eqb, leb, Option, Some, None, Result, Ok, Err}
+use Rattle.std.specs.declared.ops.ControlFlow.TheVariants.{Break}
 use Rattle.fiber_bytes.specs.Bytes.{part}
 use Rattle.fiber_since.specs.declared.epoch.Epoch.{Epoch}
 use Rattle.fiber_refusal.specs.declared.Refusal.{Refusal}
@@ -12,15 +13,13 @@ use Rattle.fiber_choice.specs.declared.kinds.Stage.{Stage}
 use Rattle.fiber_choice.specs.declared.kinds.Stage.TheVariants as StageCase
 use Rattle.fiber_choice.specs.declared.kinds.Wait.{Wait}
 use Rattle.fiber_choice.specs.declared.kinds.Wait.TheVariants as WaitCase
-use Rattle.fiber_choice.specs.declared.kinds.Step.{Step}
-use Rattle.fiber_choice.specs.declared.kinds.Step.TheVariants as StepCase
 use Rattle.fiber_choice.specs.Answered.{Answer, waiting, refused, Ready, begins, stops_waiting, stops}
 use Rattle.fiber_witness.specs.Witness.{record_len, member}
 use Rattle.fiber_witness.specs.Update.{share_left, standing, Unlocked, fine, faulty, unlocked}
 use Rattle.fiber_choice.specs.Entries.{same, same_lists, tracked_len, tracked_records}
 use Rattle.fiber_choice.specs.Request.{Request, settlement_tlcs, tracked_tlcs, pairs}
 use Rattle.fiber_choice.specs.FirstRecords.{hash_of, first_records, first_remote, first_local}
-use Rattle.fiber_choice.specs.Walk.{our_share}
+use Rattle.fiber_choice.specs.Walk.{Step, pends, our_share}
 use Rattle.fiber_choice.specs.Verdicts.{dues_by, verdicts, walked}
 use Rattle.fiber_choice.specs.Waits.{first_pending}
 use Rattle.fiber_types.specs.Records.{Outcome, unwritten}
@@ -36,9 +35,9 @@ wait_by q stage = first_pending q.time 0 (verdicts q.h q.for_remote (settlement_
 
 -- what is chosen is handed out, over shares, with the delay and the place that go with it; where nothing is chosen, the wait
 unfoldable pub or_wait : Request → List ℕ → List ℕ → Bool → (Choice → Option Epoch) → (Choice → ℕ) → Wait → List ℕ → Step → Outcome Answer
-or_wait q remote local last delay place wait out (StepCase.Chosen choice key) =
-    handed_out q.h q.args (tracked_tlcs q) (pairs q) remote local last choice key (delay choice) (place choice) out
-or_wait q remote local last delay place wait out (StepCase.Pending pending) = unwritten (waiting wait) out
+or_wait q remote local last delay place wait out (Break c) =
+    handed_out q.h q.args (tracked_tlcs q) (pairs q) remote local last c.choice c.key (delay c.choice) (place c.choice) out
+or_wait q remote local last delay place wait out (pends pending) = unwritten (waiting wait) out
 
 -- before the walk: a row, or what the walk comes to
 unfoldable pub if_ready : Ready → List ℕ → Outcome Answer → Outcome Answer

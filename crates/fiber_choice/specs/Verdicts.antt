@@ -8,11 +8,10 @@ use Rattle.fiber_choice.specs.declared.kinds.Dues.{Dues}
 use Rattle.fiber_choice.specs.declared.kinds.Cause.TheVariants as CauseCase
 use Rattle.fiber_choice.specs.declared.kinds.Stage.{Stage}
 use Rattle.fiber_choice.specs.declared.kinds.Stage.TheVariants as StageCase
-use Rattle.fiber_choice.specs.declared.kinds.Step.{Step}
 use Rattle.fiber_choice.specs.Entries.{same, find_first, received, hash, expiry_ms, local_key, tracked_record}
 use Rattle.fiber_choice.specs.FirstRecords.{hash_of}
 use Rattle.fiber_choice.specs.Preimages.{counting_pair}
-use Rattle.fiber_choice.specs.Walk.{timeout_kind, Verdict, passed, timeout, ready, falls, walk, or_share}
+use Rattle.fiber_choice.specs.Walk.{Step, timeout_kind, Verdict, passed, timeout, ready, falls, walk, or_share}
 
 -- ---- later settlement
 

@@ -1,4 +1,5 @@
-// A request that rows 14 and 10 let pass.
+// A request that rows 14 and 10 let pass: hashes of a length that a channel can have, as a type, settlement TLCs whose two flags are 0 or 1, lock args of
+// at least 36 bytes, and epochs within their bits, which is what the walk needs of them. Its other fields are the request's, by their names.
 ghost use Rattle.std.specs.Prelude.{◌≡◌, true, ◌≤◌, length};
 ghost use Rattle.fiber_since.specs.Epoch.{within_bits};
 ghost use Rattle.fiber_choice.specs.Entries.{entries, all, valid_settlement, settlement_len};

@@ -1,10 +1,11 @@
-// The types of the choice, below all that uses them: what is asked, what may be chosen, and what the walk and the output pass on.
+// The types of the choice, below all that uses them: what may be chosen, why nothing is, and what the walk and the output pass on.
 ghost use Rattle.std.specs.Prelude.{◌≡◌};
 ghost use Rattle.fiber_choice.specs.declared.kinds.NoChoice.TheVariants as NoChoiceCase;
 
 use fiber_refusal::Refusal;
 use fiber_types::epoch::Epoch;
 use fiber_types::tlc::Amount;
+use fiber_witness::shares::UnlockedShares;
 
 // A share of one side: the unlock byte is 0xFE for the remote one, 0xFF for the local one.
 #[derive(Clone, Copy, Debug, PartialEq, Eq)]
@@ -105,25 +106,19 @@ impl From<Refusal> for NoChoice {
     }
 }
 
-// What a step of the walk, and the walk as a whole, comes to: nothing chosen, with so many TLCs pending, or a choice.
-#[derive(Clone, Copy)]
-pub enum Step {
-    Pending(usize),
-    Chosen { choice: Choice, key: Key },
-}
-
-// The walk as a whole, and the first place at which its count stayed: all TLCs before it fell.
-#[derive(Clone, Copy)]
-pub struct Noted {
-    pub step: Step,
-    pub first: usize,
-}
-
 // What a walk that chooses names.
 #[derive(Clone, Copy)]
 pub struct Chosen {
     pub choice: Choice,
     pub key: Key,
+}
+
+// A walk that chooses nothing: how many TLCs it leaves pending, and the first place at which the count stayed; all TLCs before it fell. Behind the last
+// TLC, where it fell for each, there is none to wait for: then the wait is for the delay.
+#[derive(Clone, Copy)]
+pub struct Noted {
+    pub pending: usize,
+    pub first: usize,
 }
 
 // What is decided: the choice, its amount, key and delay; the lengths of the three parts of the output; place and length of
@@ -138,19 +133,17 @@ pub struct Decision {
     pub unlock_len: usize,
     pub state_len: usize,
     pub args_len: usize,
+    // both 0 where a share is chosen: over C they are numbers
     pub place: usize,
     pub len: usize,
     pub last: bool,
 }
 
-// What a choice comes to. The TLC at skip is settled, none where skip is as high as the number of TLCs; the pair counts only
-// with the flag.
+// What a choice comes to: the byte of its unlock, the pair whose preimage goes with it, the TLC that it settles, and the share that it takes.
 #[derive(Clone, Copy)]
 pub struct Plan {
-    pub byte: usize,
-    pub flag: bool,
-    pub pair_place: usize,
-    pub skip: usize,
-    pub remote: bool,
-    pub local: bool,
+    pub byte: u8,
+    pub pair: Option<usize>,
+    pub settled: Option<u8>,
+    pub unlocked: UnlockedShares,
 }

@@ -1,2 +1,2 @@
--- What is left of a list of entries.
-pub mod Left
+-- Definitions of its own it has none but for inner functions: what it builds is defined in fiber_choice.
+pub mod inner

@@ -11,7 +11,7 @@ pub struct Entries<'a> {
 
 impl<'a> Iterator for Entries<'a> {
     ghost use Rattle.std.specs.Iterator.{YieldsFirstRef, item_count};
-    ghost use Rattle.fiber_first.specs.Left.{left};
+    ghost use Rattle.fiber_first.specs.inner.Left.{left};
 
     type Item = &'a [u8];
 

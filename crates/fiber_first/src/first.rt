@@ -3,14 +3,13 @@ ghost use Rattle.fiber_types.specs.Records.{Gives};
 ghost use Rattle.fiber_choice.specs.Request.{data_of};
 ghost use Rattle.fiber_choice.specs.FirstRecords as S;
 
-use crate::built::{first_record, first_shares, put_first_tlcs};
+use crate::built::{first_shares, put_first, put_first_tlcs};
 use crate::lent::{is_valid_settlement, valid_data};
 use fiber_bytes::put;
 use fiber_choice::request::SettlementData;
 use fiber_refusal::Refusal;
 use fiber_types::hash_len::HashLen;
 use fiber_types::layout::{SETTLEMENT_TLC, SHARE_LEN, SHARES, STATE_FIXED};
-use fiber_witness::state::put_record;
 
 // Writes the record of one settlement TLC to the front of out, which may be a part of a longer output.
 #[tactic(auto, using(fiber_choice::proofs::FirstRecordsLaws::first_length, fiber_types::proofs::RecordsLaws::outcome_none, fiber_types::proofs::RecordsLaws::outcome_over), unfolding(fiber_choice::specs::FirstRecords::wrote_first_tlc))]
@@ -30,8 +29,7 @@ pub fn settlement_tlc_witness(
     if out.len() < size {
         return Err(Refusal::OutputShort(size));
     }
-    let record = first_record(h, for_remote, tlc);
-    put_record(&record[..size], out);
+    put_first(h, for_remote, tlc, out);
     Ok(size)
 }
 

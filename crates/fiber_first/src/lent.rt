@@ -2,7 +2,7 @@
 ghost use Rattle.std.specs.Prelude.{◌≡◌, get_or};
 ghost use Rattle.fiber_choice.specs.Entries as S;
 ghost use Rattle.fiber_choice.specs.Request.{data_of, valid_data};
-ghost use Rattle.fiber_first.specs.Left.{left};
+ghost use Rattle.fiber_first.specs.inner.Left.{left};
 
 use crate::entries::Entries;
 use fiber_choice::request::SettlementData;

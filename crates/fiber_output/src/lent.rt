@@ -5,14 +5,16 @@ ghost use Rattle.fiber_choice.specs.Entries.{entries, tracked_len};
 use fiber_types::hash_len::HashLen;
 use fiber_witness::shares::Shares;
 
-// The lock args, the tracked TLCs and the stored preimages that the host lends, and the shares before the unlock.
+// The lock args, the tracked TLCs and the stored preimages that the host lends, the shares before the unlock, which a first settlement
+// builds, and whether it is the last settlement.
 #[derive(Clone, Copy)]
-pub struct Lent<'a> {
+pub struct Lent<'a, 's> {
     pub h: HashLen,
     pub args: &'a [u8],
     pub tracked: &'a [u8],
     pub preimages: &'a [u8],
-    pub shares: Shares,
+    pub shares: Shares<'s>,
+    pub last: bool,
     ghost args_long: { 36 ≤ length args.now },
     ghost few: { length (entries (tracked_len h.bytes) tracked.now) ≤ 254 },
 }

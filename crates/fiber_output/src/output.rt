@@ -1,16 +1,16 @@
 // What is handed out with a choice: the unlock, the state before it and the new lock args, joined in the output.
-ghost use Rattle.std.specs.Prelude.{◌≡◌, false, ◌⊎◌, ◌+◌, ◌-◌, ◌*◌, ◌≤◌, length, take, drop};
+ghost use Rattle.std.specs.Prelude.{◌≡◌, ◌+◌, ◌-◌, ◌≤◌, length, take, drop, is_some};
 ghost use mathlib.Core.List.{◌∷◌, [], ◌++◌, flatten};
 ghost use Rattle.std.proofs.lemmas.List.Edits.{sets};
 ghost use Rattle.fiber_blake2b.specs.Blake2b.{ckb_hash};
 ghost use Rattle.fiber_types.specs.Records.{Gives, witness_len};
 ghost use Rattle.fiber_witness.specs.Witness.{state_bytes};
 ghost use Rattle.fiber_witness.specs.Update.{keep};
-ghost use Rattle.fiber_witness.specs.inner.Marks.{marked};
+ghost use Rattle.fiber_witness.specs.inner.Marks.{listed};
 ghost use Rattle.fiber_witness.specs.inner.Strided.{Fronts};
 ghost use Rattle.fiber_choice.specs.Entries.{entries, tracked_len, tracked_records, pair_len};
 ghost use Rattle.fiber_choice.specs.HandedOut as S;
-ghost use Rattle.fiber_choice.specs.inner.Plan.{plan_of, plan_after, plan_unlock, joined, Below, Within};
+ghost use Rattle.fiber_choice.specs.inner.Plan.{plan_of, PairWhole, plan_after, plan_unlock, joined, Below, Within};
 
 use crate::lent::Lent;
 use fiber_bytes::{part_of, put};
@@ -20,54 +20,49 @@ use fiber_types::blake2b::ckb_hash;
 use fiber_types::epoch::Epoch;
 use fiber_types::hash_len::HashLen;
 use fiber_types::layout::{
-    PAIR, PAIR_PREIMAGE, SHARE_AMOUNT, STATE_FIXED, TRACKED_RECORD, UNLOCK, UNLOCK_LOCAL,
-    UNLOCK_REMOTE, UNLOCK_WITH_PREIMAGE,
+    PAIR, PAIR_PREIMAGE, SHARE_AMOUNT, STATE_FIXED, TRACKED_RECORD, UNLOCK_LOCAL, UNLOCK_REMOTE,
 };
 use fiber_types::tlc::{Amount, amount_at};
 use fiber_types::unlock;
 use fiber_types::unlock::Unlock;
-use fiber_witness::marks::{Marks, no_marks, one_mark};
+use fiber_witness::marks::{UNMARKED, count_standing, mark};
 use fiber_witness::records::Records;
-use fiber_witness::shares::Shares;
+use fiber_witness::shares::{Shares, UnlockedShares};
 use fiber_witness::state::put_state;
 
-#[tactic(auto, unfolding(fiber_choice::specs::inner::Plan::plan_of, fiber_choice::specs::HandedOut::choice_byte))]
-fn plan_of(choice: Choice, n: usize) -> Plan
-    ensures { result ≡ plan_of n choice }
+// A share's unlock settles no TLC, and a TLC's takes no share.
+#[tactic(auto, unfolding(fiber_choice::specs::inner::Plan::plan_of, fiber_choice::specs::inner::Plan::Below, fiber_choice::specs::HandedOut::choice_byte))]
+fn plan_of(choice: Choice) -> Plan
+    requires { Below 255 choice }
+    ensures { result ≡ plan_of choice }
 {
     match choice {
-        Choice::Share(side) => match side {
-            Side::Remote => Plan {
-                byte: UNLOCK_REMOTE,
-                flag: false,
-                pair_place: 0,
-                skip: n,
+        Choice::Share(Side::Remote) => Plan {
+            byte: UNLOCK_REMOTE as u8,
+            pair: None,
+            settled: None,
+            unlocked: UnlockedShares {
                 remote: true,
                 local: false,
             },
-            Side::Local => Plan {
-                byte: UNLOCK_LOCAL,
-                flag: false,
-                pair_place: 0,
-                skip: n,
+        },
+        Choice::Share(Side::Local) => Plan {
+            byte: UNLOCK_LOCAL as u8,
+            pair: None,
+            settled: None,
+            unlocked: UnlockedShares {
                 remote: false,
                 local: true,
             },
         },
-        Choice::Tlc { place, way } => match way {
-            Way::Timeout => Plan {
-                byte: place,
-                flag: false,
-                pair_place: 0,
-                skip: place,
-                remote: false,
-                local: false,
+        Choice::Tlc { place, way } => Plan {
+            byte: place as u8,
+            pair: match way {
+                Way::Timeout => None,
+                Way::Preimage(pair_place) => Some(pair_place),
             },
-            Way::Preimage(pair_place) => Plan {
-                byte: place,
-                flag: true,
-                pair_place,
-                skip: place,
+            settled: Some(place as u8),
+            unlocked: UnlockedShares {
                 remote: false,
                 local: false,
             },
@@ -77,67 +72,77 @@ fn plan_of(choice: Choice, n: usize) -> Plan
 
 // How many TLCs are tracked.
 #[tactic(auto, using(fiber_choice::proofs::EntriesLaws::tracked_count))]
-fn tracked_count(lent: &Lent<'_>) -> usize
+fn tracked_count(lent: &Lent<'_, '_>) -> usize
     ensures { result ≡ length (entries (tracked_len lent.now.h.bytes) lent.now.tracked.now) }
 {
     lent.tracked.len() / lent.h.tracked_len()
 }
 
-// Writes the state of the tracked TLCs that are not marked, and of shares, to the front of out; answers its length.
-#[tactic(auto, using(fiber_choice::proofs::HandedLaws::tracked_room, fiber_choice::proofs::HandedLaws::unmarked_tracked))]
-fn put_tracked(lent: &Lent<'_>, settled: [bool; 256], shares: &Shares, out: &mut [u8]) -> usize
-    requires { 73 + length (flatten (keep (marked settled) 0 (tracked_records (entries (tracked_len lent.now.h.bytes) lent.now.tracked.now)))) ≤ length out.old }
-    ensures { Fronts (state_bytes (keep (marked settled) 0 (tracked_records (entries (tracked_len lent.now.h.bytes) lent.now.tracked.now)))
-        shares.now.remote shares.now.local) out.old result out.new }
+// Writes the state of the tracked TLCs, but for one that is settled, and of shares, to the front of out; answers its length.
+fn put_tracked(
+    lent: &Lent<'_, '_>,
+    settled: Option<u8>,
+    shares: &Shares<'_>,
+    out: &mut [u8],
+) -> usize
+    requires { 73 + length (flatten (keep (listed settled) 0 (tracked_records (entries (tracked_len lent.now.h.bytes) lent.now.tracked.now)))) ≤ length out.old }
+    ensures { Fronts (state_bytes (keep (listed settled) 0 (tracked_records (entries (tracked_len lent.now.h.bytes) lent.now.tracked.now)))
+        shares.now.remote.now shares.now.local.now) out.old result out.new }
 {
-    let marks = Marks {
-        settled,
-        n: tracked_count(lent),
-    };
+    let mut all = UNMARKED;
+    mark(settled, &mut all);
+    let marks = &all[..tracked_count(lent)];
     let records = Records {
         source: lent.tracked,
         from: TRACKED_RECORD,
         stride: lent.h.tracked_len(),
         h: lent.h,
-        marks: &marks,
+        marks,
+        standing: count_standing(marks),
     };
     put_state(&records, shares, out)
 }
 
 // Writes the state after the unlock to the front of out, and answers its CKB hash. The state before it, which is no shorter, is
 // written over it afterwards.
-#[tactic(auto, using(fiber_choice::proofs::HandedLaws::keep_small, fiber_witness::proofs::WitnessLaws::state_size, fiber_witness::proofs::UpdateLaws::keep_marked, fiber_choice::proofs::HandedLaws::front_back), unfolding(fiber_choice::specs::inner::Plan::plan_after))]
-fn hash_after(lent: &Lent<'_>, p: Plan, out: &mut [u8]) -> [u8; 32]
-    requires skip_bound { p.skip ≤ 255 }
-    requires tracked_in_bounds { 73 + length (flatten (tracked_records (entries (tracked_len lent.now.h.bytes) lent.now.tracked.now))) ≤ length out.old }
+#[tactic(auto, using(fiber_choice::proofs::HandedLaws::keep_small, fiber_witness::proofs::WitnessLaws::state_size, fiber_choice::proofs::HandedLaws::front_back), unfolding(fiber_choice::specs::inner::Plan::plan_after))]
+fn hash_after(lent: &Lent<'_, '_>, p: Plan, out: &mut [u8]) -> [u8; 32]
+    requires { 73 + length (flatten (tracked_records (entries (tracked_len lent.now.h.bytes) lent.now.tracked.now))) ≤ length out.old }
     ensures value { result ≡ ckb_hash (plan_after (tracked_records (entries (tracked_len lent.now.h.bytes) lent.now.tracked.now))
-        lent.now.shares.remote lent.now.shares.local p) }
+        lent.now.shares.remote.now lent.now.shares.local.now p) }
     ensures out_after { out.new ≡ sets out.old 0 (plan_after (tracked_records (entries (tracked_len lent.now.h.bytes) lent.now.tracked.now))
-        lent.now.shares.remote lent.now.shares.local p) }
+        lent.now.shares.remote.now lent.now.shares.local.now p) }
 {
-    let shares = lent.shares.left(p.remote, p.local);
-    let size = put_tracked(lent, one_mark(p.skip), &shares, out);
+    let shares = lent.shares.left(p.unlocked);
+    let size = put_tracked(lent, p.settled, &shares, out);
     ckb_hash(&out[..size])
+}
+
+// What the unlock says of itself.
+fn unlock_of(p: Plan) -> Unlock
+    ensures { result ≡ record { byte = p.byte; flag = is_some p.pair } }
+{
+    Unlock {
+        byte: p.byte,
+        flag: p.pair.is_some(),
+    }
 }
 
 // The unlock, with 65 zeros for the signature, at the front of the output.
 #[tactic(auto, using(fiber_choice::proofs::HandedLaws::unlock_plain, fiber_choice::proofs::HandedLaws::unlock_paired))]
 fn put_unlock(preimages: &[u8], p: Plan, out: &mut [u8])
-    requires byte_bound { (p.byte ≤ 255) × (99 ≤ length out.old) }
-    requires pair_whole { (64 * p.pair_place + 64 ≤ length preimages.now) ⊎ (p.flag ≡ false) }
+    requires { PairWhole preimages.now p.pair × (99 ≤ length out.old) }
     ensures { out.new ≡ sets out.old 0 (plan_unlock (entries pair_len preimages.now) p) }
 {
-    let u = Unlock {
-        byte: p.byte as u8,
-        flag: p.flag,
-    };
+    let u = unlock_of(p);
     let signature = [0; 65];
     // Both parts have their lengths, and the output has room, so that the unlock is written.
-    let _ = if p.flag {
-        let preimage = part_of(preimages, PAIR * p.pair_place + PAIR_PREIMAGE, 32);
-        unlock::write(u, &signature, preimage, out)
-    } else {
-        unlock::write(u, &signature, &[], out)
+    let _ = match p.pair {
+        Some(pair_place) => {
+            let preimage = part_of(preimages, PAIR * pair_place + PAIR_PREIMAGE, 32);
+            unlock::write(u, &signature, preimage, out)
+        }
+        None => unlock::write(u, &signature, &[], out),
     };
 }
 
@@ -154,13 +159,6 @@ fn put_args(args: &[u8], hash: &[u8; 32], out: &mut [u8], at: usize)
     put(out, at + 57, part_of(args, 57, args.len()));
 }
 
-// How many bytes the unlock has, with a preimage or without.
-fn unlock_size(flag: bool) -> usize
-    ensures { result ≡ witness_len flag }
-{
-    if flag { UNLOCK_WITH_PREIMAGE } else { UNLOCK }
-}
-
 // How many bytes the new args have: 57, and what stands behind them.
 fn new_args_len(args: &[u8]) -> usize
     ensures { result ≡ 57 + (length args.now - 57) }
@@ -169,32 +167,31 @@ fn new_args_len(args: &[u8]) -> usize
 }
 
 // The three parts, joined, in an output that has room for them.
-#[tactic(auto, using(fiber_choice::proofs::HandedLaws::joined_size, fiber_choice::proofs::HandedLaws::unmarked_all, fiber_witness::proofs::WitnessLaws::state_size))]
-fn put_joined(lent: &Lent<'_>, p: Plan, out: &mut [u8])
-    requires plan_bound { (p.byte ≤ 255) × (p.skip ≤ 255) }
-    requires pair_whole { (64 * p.pair_place + 64 ≤ length lent.now.preimages.now) ⊎ (p.flag ≡ false) }
+#[tactic(auto, using(fiber_choice::proofs::HandedLaws::joined_size, fiber_choice::proofs::HandedLaws::keep_listed, fiber_witness::proofs::WitnessLaws::state_size))]
+fn put_joined(lent: &Lent<'_, '_>, p: Plan, out: &mut [u8])
+    requires pair_whole { PairWhole lent.now.preimages.now p.pair }
     requires p_in_bounds { length (joined lent.now.args.now (entries (tracked_len lent.now.h.bytes) lent.now.tracked.now)
-        (entries pair_len lent.now.preimages.now) lent.now.shares.remote lent.now.shares.local p) ≤ length out.old }
+        (entries pair_len lent.now.preimages.now) lent.now.shares.remote.now lent.now.shares.local.now p) ≤ length out.old }
     ensures { out.new ≡ sets out.old 0 (joined lent.now.args.now (entries (tracked_len lent.now.h.bytes) lent.now.tracked.now)
-        (entries pair_len lent.now.preimages.now) lent.now.shares.remote lent.now.shares.local p) }
+        (entries pair_len lent.now.preimages.now) lent.now.shares.remote.now lent.now.shares.local.now p) }
 {
-    let at = unlock_size(p.flag);
+    let at = unlock_of(p).witness_len();
     put_unlock(lent.preimages, p, out);
     let hash = hash_after(lent, p, &mut out[at..]);
-    let size = put_tracked(lent, no_marks(), &lent.shares, &mut out[at..]);
+    let size = put_tracked(lent, None, &lent.shares, &mut out[at..]);
     put_args(lent.args, &hash, out, at + size);
 }
 
 // The amount of a share, or of the TLC at a place, behind the type in its record.
 #[tactic(auto, using(fiber_choice::proofs::HandedLaws::tracked_room, fiber_choice::proofs::HandedLaws::tracked_amount), unfolding(fiber_choice::specs::HandedOut::choice_amount, fiber_choice::specs::inner::Plan::Below))]
-fn amount_of(lent: &Lent<'_>, choice: Choice) -> Amount
+fn amount_of(lent: &Lent<'_, '_>, choice: Choice) -> Amount
     requires { Below (length (entries (tracked_len lent.now.h.bytes) lent.now.tracked.now)) choice }
     ensures { result ≡ S.choice_amount (tracked_records (entries (tracked_len lent.now.h.bytes) lent.now.tracked.now))
-        lent.now.shares.remote lent.now.shares.local choice }
+        lent.now.shares.remote.now lent.now.shares.local.now choice }
 {
     match choice {
-        Choice::Share(Side::Remote) => amount_at(&lent.shares.remote, SHARE_AMOUNT),
-        Choice::Share(Side::Local) => amount_at(&lent.shares.local, SHARE_AMOUNT),
+        Choice::Share(Side::Remote) => amount_at(lent.shares.remote, SHARE_AMOUNT),
+        Choice::Share(Side::Local) => amount_at(lent.shares.local, SHARE_AMOUNT),
         Choice::Tlc { place, way: _ } => {
             let record = place * lent.h.tracked_len() + TRACKED_RECORD;
             amount_at(lent.tracked, record + 1)
@@ -214,10 +211,9 @@ fn record_size(h: HashLen, choice: Choice) -> usize
 }
 
 // The unlock, the state before it and the new args go to the output, joined: 13 at their length where they have no room.
-#[tactic(auto, using(fiber_choice::proofs::HandedLaws::plan_byte, fiber_choice::proofs::HandedLaws::plan_skip, fiber_choice::proofs::HandedLaws::plan_pair, fiber_choice::proofs::HandedLaws::joined_size, fiber_choice::proofs::HandedLaws::tlcs_flat), unfolding(fiber_choice::specs::inner::Plan::Within))]
+#[tactic(auto, using(fiber_choice::proofs::HandedLaws::plan_pair, fiber_choice::proofs::HandedLaws::joined_size, fiber_choice::proofs::HandedLaws::tlcs_flat), unfolding(fiber_choice::specs::inner::Plan::Within))]
 pub fn write_output(
-    lent: &Lent<'_>,
-    last: bool,
+    lent: &Lent<'_, '_>,
     chosen: Chosen,
     delay: Option<Epoch>,
     place: usize,
@@ -225,12 +221,12 @@ pub fn write_output(
 ) -> Result<Decision, NoChoice>
     requires { Within (length (entries (tracked_len lent.now.h.bytes) lent.now.tracked.now)) (length (entries pair_len lent.now.preimages.now)) chosen.choice }
     ensures { Gives (S.handed_out lent.now.h.bytes lent.now.args.now (entries (tracked_len lent.now.h.bytes) lent.now.tracked.now)
-        (entries pair_len lent.now.preimages.now) lent.now.shares.remote lent.now.shares.local last chosen.choice chosen.key delay place out.old)
+        (entries pair_len lent.now.preimages.now) lent.now.shares.remote.now lent.now.shares.local.now lent.now.last chosen.choice chosen.key delay place out.old)
         result out.new }
 {
     let n = tracked_count(lent);
-    let p = plan_of(chosen.choice, n);
-    let unlock_len = unlock_size(p.flag);
+    let p = plan_of(chosen.choice);
+    let unlock_len = unlock_of(p).witness_len();
     let state_len = STATE_FIXED + n * lent.h.record_len();
     let args_len = new_args_len(lent.args);
     let size = unlock_len + state_len + args_len;
@@ -248,6 +244,6 @@ pub fn write_output(
         args_len,
         place,
         len: record_size(lent.h, chosen.choice),
-        last,
+        last: lent.last,
     })
 }

@@ -110,6 +110,7 @@ fn maj(x: u32, y: u32, z: u32) -> u32
     y ^ ((x ^ y) & (y ^ z))
 }
 
+// 4.1.2 defines these four one by one, by three constants each: one function of three const parameters would read no plainer.
 fn sum0(x: u32) -> u32
     ensures { result ≡ S.sum0 x }
 {
@@ -231,7 +232,7 @@ fn load(s: &[u8], at: usize) -> [u32; 64]
     ensures { result ≡ S.loaded 16 s.now at }
 {
     let mut w = [0u32; 64];
-    // By index: of what is written through an adapter of `iter_mut` a proof knows nothing.
+    // By index: `from_fn` would ask of each of 64 places whether it is one of the sixteen.
     for i in 0..16 {
         w[i] = word(s, at + 4 * i);
     }
@@ -253,7 +254,7 @@ fn absorb(s: &[u8]) -> [u32; 8]
 {
     let mut h = INITIAL;
     let n = s.len() / 64;
-    // By the block's place, as the definition reads the padded bytes.
+    // By the block's place, by which the definition reads the padded bytes: a fold over chunks would say less.
     for i in 0..n {
         let next = compress(h, s, i * 64);
         h = next;

@@ -1,11 +1,10 @@
 -- Laws of `specs/Epoch.antt`: checked products, and fractions compared by whole parts and rests.
 -- Assumes nothing.
 use Prim.Native.Nat.{ℕ, ◌+◌, ◌*◌, ◌/◌, ◌%◌, ◌^◌, ◌≤◌, ◌<◌}
-use native.Mathlib.Nat.{mod-lt, mod-le, div-le_self, div-add-mod', mul-le-mul_right, suc-mul, mul-zero, add-mul, mul_assoc, mul_comm, mul-pos, mul-le-mul_left, mul-lt-mul_of_pos_right, lt_of_le_of_lt, add_comm, add-mul-div_right, add-mul-mod_self_right, le-div_iff_mul-le, div-lt_iff_lt-mul}
+use native.Mathlib.Nat.{mod-lt, div-add-mod', mul-le-mul_right, suc-mul, add-mul, mul_assoc, mul_comm, mul-pos, mul-le-mul_left, mul-lt-mul_of_pos_right, lt_of_le_of_lt, add_comm, add-mul-div_right, add-mul-mod_self_right, le-div_iff_mul-le, div-lt_iff_lt-mul}
 use native.Mathlib.Omega.{arith}
 use mathlib.Core.Path.{◌≡◌, refl, sym, ap, subst, ◌∙◌}
-use mathlib.Core.Bool.{Bool, true, false, cond, ◌&&◌, ◌||◌, or-true}
-use mathlib.Core.Logic.{◌⊎◌, inl, inr}
+use mathlib.Core.Bool.{Bool, true, false, cond, ◌&&◌, ◌||◌}
 use lib.Dec.{eqb, leb, ltb, lit<}
 use borrow.Author.Tests.{le-leb, lt-leb, leb-true, leb-false, lt-ltb, le-ltb, ltb-true, ltb-false, ne_eqb, eq-eqb}
 use Rattle.fiber_since.specs.declared.epoch.Epoch.{Epoch}

@@ -1,2 +1,2 @@
--- What the code cuts out of a tracked TLC.
+-- The record of a tracked TLC is read.
 pub mod RecordLaws

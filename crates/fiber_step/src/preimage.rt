@@ -4,12 +4,13 @@ ghost use Rattle.fiber_choice.specs.Entries.{entries, pair_len};
 ghost use Rattle.fiber_choice.specs.Preimages as S;
 
 use fiber_bytes::part_of;
+use fiber_choice::tracked::TrackedTlc;
 use fiber_first::lent::pairs;
 use fiber_types::blake2b::ckb_hash;
-use fiber_types::layout::{PAIR, PAIR_PREIMAGE, TRACKED_ALGORITHM};
+use fiber_types::layout::{PAIR, PAIR_PREIMAGE};
 use fiber_types::sha256::sha256;
 
-// The hash of a preimage under an algorithm: 1 is SHA-256, else CKB's hash.
+// The hash of a preimage under an algorithm, the byte as a tracked TLC has it: 1 is SHA-256, else CKB's hash.
 #[tactic(auto, unfolding(fiber_choice::specs::Preimages::digest))]
 fn digest(algorithm: u8, s: &[u8]) -> [u8; 32]
     ensures { result ≡ S.digest algorithm s.now }
@@ -30,23 +31,22 @@ pub fn find_pair(preimages: &[u8], hash: &[u8]) -> Option<usize>
 
 // Whether the preimage in the pair at a place has the tracked TLC's hash under its algorithm.
 #[tactic(auto, using(fiber_choice::proofs::PreimagesLaws::pair_preimage_lem), unfolding(fiber_choice::specs::Preimages::counts_at))]
-pub fn counts(preimages: &[u8], pair_place: usize, tracked_tlc: &[u8]) -> bool
-    requires { (pair_len * pair_place + pair_len ≤ length preimages.now) × (33 ≤ length tracked_tlc.now) }
-    ensures { result ≡ S.counts_at (entries pair_len preimages.now) tracked_tlc.now pair_place }
+pub fn counts(preimages: &[u8], pair_place: usize, tracked: &TrackedTlc<'_>) -> bool
+    requires { pair_len * pair_place + pair_len ≤ length preimages.now }
+    ensures { result ≡ S.counts_at (entries pair_len preimages.now) tracked.now.bytes.now pair_place }
 {
     let preimage = part_of(preimages, PAIR * pair_place + PAIR_PREIMAGE, 32);
-    let found = digest(tracked_tlc[TRACKED_ALGORITHM], preimage);
-    found.as_slice() == part_of(tracked_tlc, 0, 32)
+    let found = digest(tracked.algorithm(), preimage);
+    found.as_slice() == tracked.hash()
 }
 
 // The first pair with the tracked TLC's hash, if its preimage counts.
 #[tactic(auto, using(fiber_choice::proofs::PreimagesLaws::pair_bytes), unfolding(fiber_choice::specs::Preimages::counting_pair, fiber_choice::specs::Preimages::if_counts))]
-pub fn counting_pair(preimages: &[u8], tracked_tlc: &[u8]) -> Option<usize>
-    requires { 33 ≤ length tracked_tlc.now }
-    ensures { result ≡ S.counting_pair (entries pair_len preimages.now) tracked_tlc.now }
+pub fn counting_pair(preimages: &[u8], tracked: &TrackedTlc<'_>) -> Option<usize>
+    ensures { result ≡ S.counting_pair (entries pair_len preimages.now) tracked.now.bytes.now }
 {
-    let pair_place = find_pair(preimages, part_of(tracked_tlc, 0, 32))?;
-    if counts(preimages, pair_place, tracked_tlc) {
+    let pair_place = find_pair(preimages, tracked.hash())?;
+    if counts(preimages, pair_place, tracked) {
         Some(pair_place)
     } else {
         None

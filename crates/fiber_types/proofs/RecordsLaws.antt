@@ -2,32 +2,27 @@
 -- Assumes nothing.
 use Prim.Native.Nat.{ℕ, suc, ◌+◌, ◌-◌, ◌≤◌, ◌<◌}
 use native.Mathlib.Omega.{arith}
-use mathlib.Core.Path.{◌≡◌, refl, sym, ap, subst, ◌∙◌}
-use mathlib.Core.Bool.{Bool, true, false, cond, ◌&&◌, ◌||◌, and-false}
+use mathlib.Core.Path.{◌≡◌, refl, sym, ap, ◌∙◌}
+use mathlib.Core.Bool.{Bool, true, false, ◌&&◌, ◌||◌}
 use mathlib.Core.List.{List, ◌∷◌, ◌++◌, append_assoc}
-use mathlib.Core.Logic.{◌⊎◌, inl, inr}
 use lib.Dec.{eqb, leb, lit≤}
 use lib.ListN.{length, get_or, drop, length-append, length-take, set}
-use lib.Seq.{sets, length-sets}
-use borrow.Author.Tests.{le-leb, lt-leb, leb-true, eq-eqb, ne_eqb, eqb-true}
+use lib.Seq.{sets}
+use borrow.Author.Tests.{le-leb, lt-leb, leb-true, eq-eqb, eqb-true}
 use Rattle.std.specs.Prelude.{Result, Ok, Err}
 use Rattle.fiber_refusal.specs.declared.Refusal.{Refusal}
-use Rattle.fiber_refusal.specs.declared.Refusal.TheVariants.{TlcCut, UnlockCut, OutputShort, NotWell}
+use Rattle.fiber_refusal.specs.declared.Refusal.TheVariants.{TlcCut, OutputShort, NotWell}
 use Rattle.fiber_types.specs.declared.tlc.Amount.{Amount}
 use Rattle.fiber_types.specs.declared.tlc.Tlc.{Tlc}
 use Rattle.fiber_types.specs.declared.unlock.Unlock.{Unlock}
 use Rattle.fiber_bytes.specs.Bytes.{part, le, le_bytes}
 use Rattle.fiber_types.specs.HashLen.{valid_hash_len}
-use Rattle.fiber_types.specs.Records.{outcome, amount_at, tlc_bytes, tlc_at, payment_hash, key_hash_in, read_tlc, wrote_tlc, witness_len, flag_byte, unlock_bytes, read_unlock, wrote_unlock, unwritten}
-use Rattle.fiber_bytes.proofs.BytesLaws.{part_none, part_part, le_bytes_length, sets_then, le_none}
+use Rattle.fiber_types.specs.Records.{outcome, amount_at, tlc_bytes, tlc_at, payment_hash, read_tlc, wrote_tlc, witness_len, flag_byte, unlock_bytes, read_unlock, wrote_unlock, unwritten}
+use Rattle.fiber_bytes.proofs.BytesLaws.{part_part, le_bytes_length, sets_then}
 
 -- ---- reading
 
 module _ (h : ℕ) (s : List ℕ) (at : ℕ) where
-  pub tlc_unknown : valid_hash_len h ≡ false → Err NotWell ≡ read_tlc h s at
-  unfolding read_tlc
-  tlc_unknown e = rw e
-
   module _ (e : valid_hash_len h ≡ true) where
     pub tlc_cut : length s < at + (65 + h) → Err (TlcCut at) ≡ read_tlc h s at
     unfolding read_tlc
@@ -43,37 +38,10 @@ module _ (h : ℕ) (s : List ℕ) (at : ℕ) where
   unfolding tlc_at
   tlc_fields k a x e f g = rw (e, f, g)
 
-  -- the amount is behind the type
-  pub tlc_amount_lem : (tlc_at h s at).amount ≡ amount_at s (at + 1)
-  unfolding tlc_at
-  tlc_amount_lem = refl
-
--- A TLC that is whole: what is read is its numbers, and it is never turned down.
-module _ {x : Result Tlc Refusal} {t : Tlc} (e : x ≡ Ok t) where
-  pub whole_is : (u : Tlc) → x ≡ Ok u → u ≡ t
-  whole_is u f = cc
-
-  pub whole_never : {A : Type 0} (r : Refusal) → x ≡ Err r → A
-  whole_never r f = let z : ◌≡◌ {A = ℕ} 0 1 = cc in absurd (omega arith)
-
--- a record's parts
-pub payment_hash_lem : (h : ℕ) (r : List ℕ) → part r 17 h ≡ payment_hash h r
-unfolding payment_hash
-payment_hash_lem h r = refl
-
--- at most h bytes, and as many where the record is whole
+-- a record's hash has at most h bytes, and as many where the record is whole
 pub payment_hash_length : (h : ℕ) (r : List ℕ) → length (payment_hash h r) ≤ h
 unfolding payment_hash
 payment_hash_length h r = omega (arith, length-take h (drop 17 r))
-
-module _ (h : ℕ) (local : Bool) (r : List ℕ) (front : ℕ) (e : front ≡ cond local 37 17) where
-  pub slot_there : part r (front + h) 20 ≡ key_hash_in h local r
-  unfolding key_hash_in
-  slot_there = rw e
-
-  -- past the end of the record
-  pub slot_beyond : (at : ℕ) → length r ≤ at → length r < front + h → part r at 20 ≡ key_hash_in h local r
-  slot_beyond at g l = part_none r at 20 g ∙ sym (part_none r (front + h) 20 (omega arith)) ∙ slot_there
 
 -- 20 is one, and 32
 pub hash_len_20 : valid_hash_len 20 ≡ true
@@ -94,32 +62,12 @@ hash_len_small h e = go (eqb h 20) (eqb h 32) refl refl e
     go false false p q r = let z : ◌≡◌ {A = ℕ} 0 1 = cc in absurd (omega arith)
 
 module _ (s : List ℕ) (at : ℕ) where
-  pub unlock_cut : length s < at + 67 → Err (UnlockCut at) ≡ read_unlock s at
-  unfolding read_unlock
-  unlock_cut h = go (eqb (get_or s (at + 1) 0) 1)
-    where
-      go : (t : Bool) → ◌≡◌ {A = Result Unlock Refusal} (Err (UnlockCut at)) (cond (leb (at + cond t 99 67) (length s)) (Ok (record { byte = get_or s at 0; flag = t })) (Err (UnlockCut at)))
-      go true = rw (lt-leb (at + 99) (length s) (omega arith))
-      go false = rw (lt-leb (at + 67) (length s) h)
-
-  pub unlock_cut_flag : (t : Bool) → t ≡ eqb (get_or s (at + 1) 0) 1 → length s < at + witness_len t → Err (UnlockCut at) ≡ read_unlock s at
-  unfolding read_unlock
-  unlock_cut_flag t e h = rw (← e, lt-leb (at + witness_len t) (length s) h)
-
   pub unlock_whole : (t : Bool) → t ≡ eqb (get_or s (at + 1) 0) 1 → at + witness_len t ≤ length s
       → Ok (record { byte = get_or s at 0; flag = t }) ≡ read_unlock s at
   unfolding read_unlock
   unlock_whole t e h = rw (← e, le-leb (at + witness_len t) (length s) h)
 
 module _ (s : List ℕ) (at : ℕ) where
-  pub amount_none : length s ≤ at → record { low = 0; high = 0 } ≡ amount_at s at
-  unfolding amount_at
-  amount_none h = rw (← le_none s at 8 h, ← le_none s (at + 8) 8 (omega arith))
-
-  pub amount_low : length s ≤ at + 8 → (x : ℕ) → x ≡ le (part s at 8) → record { low = x; high = 0 } ≡ amount_at s at
-  unfolding amount_at
-  amount_low h x e = rw (e, ← le_none s (at + 8) 8 h)
-
   pub amount_both : (x y : ℕ) → x ≡ le (part s at 8) → y ≡ le (part s (at + 8) 8) → record { low = x; high = y } ≡ amount_at s at
   unfolding amount_at
   amount_both x y e f = rw (e, f)
@@ -134,10 +82,6 @@ amount_part s at n i h =
 -- ---- writing
 
 module _ (ok : Bool) (bytes out : List ℕ) where
-  pub outcome_unfit : ok ≡ false → (Err NotWell ≡ (outcome ok bytes out).answer) × (out ≡ (outcome ok bytes out).bytes)
-  unfolding outcome
-  outcome_unfit e = (rw e, rw e)
-
   module _ (e : ok ≡ true) (n : ℕ) (f : length bytes ≡ n) where
     pub outcome_short : length out < n → (Err (OutputShort n) ≡ (outcome ok bytes out).answer) × (out ≡ (outcome ok bytes out).bytes)
     unfolding outcome
@@ -172,12 +116,6 @@ outcome_by P bytes out f g = go (leb (length bytes) (length out)) refl
     go : (b : Bool) → leb (length bytes) (length out) ≡ b → P (outcome true bytes out).bytes (outcome true bytes out).answer
     go true e = rw e (f (leb-true (length bytes) (length out) e))
     go false e = rw e g
-
--- the output stays as long as it is
-pub outcome_length : (ok : Bool) (bytes out : List ℕ) → length (outcome ok bytes out).bytes ≡ length out
-unfolding outcome
-outcome_length false bytes out = refl
-outcome_length true bytes out = outcome_by (λ o w. length o ≡ length out) bytes out (λ _. length-sets out 0 bytes) refl
 
 module _ (t : Tlc) (hash remote local : List ℕ) where
   pub tlc_bytes_length : length (tlc_bytes t hash remote local) ≡ 25 + (length hash + length remote + length local)
@@ -241,17 +179,6 @@ at_least true = lit≤ tt
 at_least false = lit≤ tt
 
 module _ (t : Tlc) (hash remote local out : List ℕ) where
-  pub tlc_unfit : (valid_hash_len (length hash) ≡ false) ⊎ ((length remote ≡ 20 → ⊥) ⊎ (length local ≡ 20 → ⊥))
-      → (Err NotWell ≡ (wrote_tlc t hash remote local out).answer) × (out ≡ (wrote_tlc t hash remote local out).bytes)
-  unfolding wrote_tlc
-  tlc_unfit h = outcome_unfit _ (tlc_bytes t hash remote local) out (go h)
-    where
-      go : (valid_hash_len (length hash) ≡ false) ⊎ ((length remote ≡ 20 → ⊥) ⊎ (length local ≡ 20 → ⊥))
-          → (valid_hash_len (length hash) && eqb (length remote) 20 && eqb (length local) 20) ≡ false
-      go (inl e) = rw e
-      go (inr (inl e)) = rw (ne_eqb (length remote) 20 e, and-false (valid_hash_len (length hash)))
-      go (inr (inr e)) = rw (ne_eqb (length local) 20 e, and-false (valid_hash_len (length hash) && eqb (length remote) 20))
-
   module _ (k : valid_hash_len (length hash) ≡ true) (e : length remote ≡ 20) (f : length local ≡ 20) where
     fit : (valid_hash_len (length hash) && eqb (length remote) 20 && eqb (length local) 20) ≡ true
     fit = rw (k, e, f)
@@ -270,16 +197,6 @@ module _ (t : Tlc) (hash remote local out : List ℕ) where
     tlc_written g out' d = outcome_whole _ (tlc_bytes t hash remote local) out fit _ size g out' d
 
 module _ (u : Unlock) (signature preimage out : List ℕ) (n : ℕ) (w : n ≡ witness_len u.flag) where
-  pub unlock_unfit : (length signature ≡ 65 → ⊥) ⊎ (length preimage ≡ n - 67 → ⊥)
-      → (Err NotWell ≡ (wrote_unlock u signature preimage out).answer) × (out ≡ (wrote_unlock u signature preimage out).bytes)
-  unfolding wrote_unlock
-  unlock_unfit h = outcome_unfit _ (unlock_bytes u signature preimage) out (go h)
-    where
-      go : (length signature ≡ 65 → ⊥) ⊎ (length preimage ≡ n - 67 → ⊥)
-          → (eqb (length signature) 65 && eqb (length preimage) (witness_len u.flag - 67)) ≡ false
-      go (inl e) = rw (ne_eqb (length signature) 65 e)
-      go (inr e) = rw (← w, ne_eqb (length preimage) (n - 67) e, and-false (eqb (length signature) 65))
-
   module _ (e : length signature ≡ 65) (f : length preimage ≡ n - 67) where
     fits : (eqb (length signature) 65 && eqb (length preimage) (witness_len u.flag - 67)) ≡ true
     fits = rw (e, ← w, eq-eqb (length preimage) (n - 67) f)

@@ -1,4 +1,4 @@
--- What the lower face's own operations mean: one file to a module of document 01.
+-- What the lower face's own operations mean, records, unlocks and key hashes, and which lengths of hashes its types take.
 pub mod HashLen
 pub mod Taken
 pub mod Key

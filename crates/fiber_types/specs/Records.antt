@@ -1,5 +1,5 @@
 -- TLC records and unlocks; docs/SCOPE.md, "Records", with the numbers of its table.
-use Rattle.std.specs.Prelude.{ℕ, ◌+◌, ◌-◌, ◌*◌, ◌%◌, ◌^◌, ◌≡◌, Bool, cond, ◌&&◌, ◌||◌, List, ◌∷◌, ◌++◌, length, get_or, eqb, leb, Result, Ok, Err}
+use Rattle.std.specs.Prelude.{ℕ, ◌+◌, ◌-◌, ◌*◌, ◌%◌, ◌^◌, ◌≡◌, Bool, cond, ◌&&◌, List, ◌∷◌, ◌++◌, length, get_or, eqb, leb, Result, Ok, Err}
 use Rattle.std.proofs.lemmas.List.Edits.{sets}
 use Rattle.fiber_refusal.specs.declared.Refusal.{Refusal}
 use Rattle.fiber_refusal.specs.declared.Refusal.TheVariants.{TlcCut, UnlockCut, OutputShort, NotWell}

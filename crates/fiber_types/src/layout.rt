@@ -1,6 +1,6 @@
-// Lengths of what lies in bytes, and where its parts begin: the one place for them. include/fiber_settlement.h has the same, with FIBER_ or
-// FIBER_SETTLEMENT_ in front, and tools/header compares the two. A name that says no part is a length. The contracts speak of these by
-// definitions of their own, from document 01, so that a wrong number here is refused.
+// Lengths of what lies in bytes, and where its parts begin: the one place for those that more than one function needs. include/fiber_settlement.h has
+// the same, with FIBER_ or FIBER_SETTLEMENT_ in front, and tools/header compares the two. A name that says no part is a length. The contracts speak of
+// these by definitions of their own, from document 01, so that a wrong number here is refused.
 
 // A public key, and its hash.
 pub const KEY: usize = 33;

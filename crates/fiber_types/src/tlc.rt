@@ -18,6 +18,7 @@ pub struct Amount {
 // The numbers of a TLC. Its hash and its two key hashes stay where they are, as parts of a slice.
 #[derive(Clone, Copy, Debug, PartialEq, Eq)]
 pub struct Tlc {
+    // the type byte as it is: a reader takes any
     pub kind: u8,
     pub amount: Amount,
     pub expiry: u64,

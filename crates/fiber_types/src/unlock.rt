@@ -7,7 +7,8 @@ use crate::layout::{UNLOCK, UNLOCK_WITH_PREIMAGE};
 use fiber_bytes::put;
 use fiber_refusal::Refusal;
 
-// What an unlock says of itself. Its signature and its preimage stay where they are, as parts of a slice.
+// What an unlock says of itself. Its signature and its preimage stay where they are, as parts of a slice, so that the flag is no Option: in the layout it
+// stands before the signature, and a preimage behind it.
 #[derive(Clone, Copy, Debug, PartialEq, Eq)]
 pub struct Unlock {
     pub byte: u8,

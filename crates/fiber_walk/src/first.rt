@@ -12,6 +12,7 @@ ghost use Rattle.fiber_choice.specs.inner.Request.{request_by};
 use crate::walk::walked;
 use fiber_choice::checked::Checked;
 use fiber_choice::kinds::{Choice, Decision, Dues, NoChoice, Stage, Wait, Way};
+use fiber_choice::walk::Walk;
 use fiber_first::built::{first_shares, same_as_tracked};
 use fiber_output::lent::Lent;
 use fiber_output::output::write_output;
@@ -21,6 +22,7 @@ use fiber_types::due::due;
 use fiber_types::epoch::{Epoch, any_zero, mul};
 use fiber_types::hash_len::HashLen;
 use fiber_types::layout::{MOST_TLCS, SETTLEMENT_TLC, TRACKED_RECORD};
+use fiber_witness::shares::Shares;
 
 // The scaled delay for a TLC, the full one for a share.
 #[tactic(auto, unfolding(fiber_choice::specs::Settlements::first_delay))]
@@ -82,17 +84,27 @@ fn first_thirds(q: &Checked<'_>, full: Comparable, out: &mut [u8]) -> Result<Dec
         full,
         Comparable { epoch: q.current },
     );
-    let chosen = walked(q, Stage::First(dues))?;
+    let walk = Walk {
+        q: &*q,
+        stage: Stage::First(dues),
+    };
+    let chosen = walked(&walk)?;
+    let built = first_shares(q.for_remote, &q.settlement);
+    let shares = Shares {
+        remote: &built.remote,
+        local: &built.local,
+    };
     let lent = Lent {
         h: q.h,
         args: q.args,
         tracked: q.tracked,
         preimages: q.preimages,
-        shares: first_shares(q.for_remote, &q.settlement),
+        shares,
+        last: false,
     };
     let delay = delay_for(third, two_thirds, full.epoch, chosen.choice);
     let place = first_place(q.h, chosen.choice);
-    write_output(&lent, false, chosen, Some(delay), place, out)
+    write_output(&lent, chosen, Some(delay), place, out)
 }
 
 // Rows 7, 12 and 20.

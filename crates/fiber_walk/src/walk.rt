@@ -2,18 +2,18 @@
 ghost use Rattle.std.specs.Prelude.{◌≡◌, ◌≤◌, length};
 ghost use Rattle.fiber_choice.specs.Request.{settlement_tlcs, tracked_tlcs, pairs};
 ghost use Rattle.fiber_choice.specs.Settlements.{walked_by, wait_by};
-ghost use Rattle.fiber_choice.specs.Walk as W;
 ghost use Rattle.fiber_choice.specs.Verdicts as S;
-ghost use Rattle.fiber_choice.specs.inner.Plan.{ReachesAll};
 ghost use Rattle.fiber_choice.specs.inner.Noting as I;
 ghost use Rattle.fiber_choice.specs.inner.Request.{request_by};
 
-use fiber_choice::checked::Checked;
-use fiber_choice::kinds::{Choice, Chosen, Key, Noted, Stage, Step, Wait};
+use fiber_choice::kinds::{Chosen, Noted, Stage, Wait};
+use fiber_choice::tracked::TrackedTlc;
+use fiber_choice::walk::Walk;
 use fiber_first::lent::tracked_tlcs;
-use fiber_step::slot::our_side;
+use fiber_step::slot::our_share;
 use fiber_step::step::step;
 use fiber_step::wait::wait_at;
+use std::ops::ControlFlow;
 
 // The first place at which the count stayed, as known behind the TLC at a place, with so many pending before it and so many left: as long as pending fell for
 // every TLC, the next place.
@@ -28,34 +28,25 @@ fn noted(place: usize, before: usize, left: usize, first: usize) -> usize
     first
 }
 
-fn walk(q: &Checked<'_>, stage: Stage) -> Noted
-    requires few { length (tracked_tlcs (request_by q.now)) ≤ 254 }
-    requires reaches_all { ReachesAll stage (length (tracked_tlcs (request_by q.now))) (length (settlement_tlcs (request_by q.now))) }
-    ensures { result ≡ I.noting q.now.time 0 (length (tracked_tlcs (request_by q.now))) 0 (S.verdicts q.now.h.bytes q.now.for_remote
-        (settlement_tlcs (request_by q.now)) (pairs (request_by q.now)) stage 0 (tracked_tlcs (request_by q.now))) }
+// What the walk chooses, or what it leaves pending and notes.
+fn noting(walk: &Walk<'_>) -> ControlFlow<Chosen, Noted>
+    ensures { result ≡ I.noting walk.now.q.now.time 0 (length (tracked_tlcs (request_by walk.now.q.now))) 0 (S.verdicts walk.now.q.now.h.bytes
+        walk.now.q.now.for_remote (settlement_tlcs (request_by walk.now.q.now)) (pairs (request_by walk.now.q.now)) walk.now.stage 0
+        (tracked_tlcs (request_by walk.now.q.now))) }
 {
+    let q = walk.q;
     let mut pending = q.tracked.len() / q.h.tracked_len();
     let mut first = 0;
-    let mut place = 0;
-    for tracked_tlc in tracked_tlcs(q.h, q.tracked) {
-        match step(q, stage, tracked_tlc, place, pending) {
-            Step::Pending(left) => {
-                first = noted(place, pending, left, first);
-                pending = left;
-            }
-            Step::Chosen { choice, key } => {
-                return Noted {
-                    step: Step::Chosen { choice, key },
-                    first,
-                };
-            }
-        }
-        place += 1;
+    for (place, tracked_tlc) in tracked_tlcs(q.h, q.tracked).enumerate() {
+        let tracked = TrackedTlc {
+            h: q.h,
+            bytes: tracked_tlc,
+        };
+        let left = step(walk, &tracked, place, pending)?;
+        first = noted(place, pending, left, first);
+        pending = left;
     }
-    Noted {
-        step: Step::Pending(pending),
-        first,
-    }
+    ControlFlow::Continue(Noted { pending, first })
 }
 
 // Our share may be taken: in a first settlement once the full delay is due.
@@ -63,34 +54,23 @@ fn walk(q: &Checked<'_>, stage: Stage) -> Noted
 fn may_share(stage: Stage) -> bool
     ensures { result ≡ S.may_share stage }
 {
+    // A match, as in `step` of fiber_step: what differs in the two settlements is this one flag.
     match stage {
         Stage::First(dues) => dues.full,
         Stage::Later => true,
     }
 }
 
-// None chosen and none pending: our share.
-#[tactic(auto, unfolding(fiber_choice::specs::Walk::or_share, fiber_choice::specs::Walk::onward))]
-fn or_share(for_remote: bool, may: bool, step: Step) -> Step
-    ensures { result ≡ W.or_share for_remote may step }
+// What the walk chooses; where it chooses none and none is pending, our share, if it may be taken; else what it waits for.
+#[tactic(auto, using(fiber_choice::proofs::WalkLaws::picked_chosen, fiber_choice::proofs::WalkLaws::picked_share))]
+pub fn walked(walk: &Walk<'_>) -> Result<Chosen, Wait>
+    ensures { result ≡ I.pick_of (walked_by (request_by walk.now.q.now) walk.now.stage) (wait_by (request_by walk.now.q.now) walk.now.stage) }
 {
-    match step {
-        Step::Pending(0) if may => Step::Chosen {
-            choice: Choice::Share(our_side(for_remote)),
-            key: Key::Settlement,
-        },
-        step => step,
-    }
-}
-
-pub fn walked(q: &Checked<'_>, stage: Stage) -> Result<Chosen, Wait>
-    requires few { length (tracked_tlcs (request_by q.now)) ≤ 254 }
-    requires reaches_all { ReachesAll stage (length (tracked_tlcs (request_by q.now))) (length (settlement_tlcs (request_by q.now))) }
-    ensures { result ≡ I.pick_of (walked_by (request_by q.now) stage) (wait_by (request_by q.now) stage) }
-{
-    let found = walk(q, stage);
-    match or_share(q.for_remote, may_share(stage), found.step) {
-        Step::Pending(_) => Err(wait_at(q, stage, found.first)),
-        Step::Chosen { choice, key } => Ok(Chosen { choice, key }),
+    match noting(walk) {
+        ControlFlow::Break(chosen) => Ok(chosen),
+        ControlFlow::Continue(noted) if noted.pending == 0 && may_share(walk.stage) => {
+            Ok(our_share(walk.q.for_remote))
+        }
+        ControlFlow::Continue(noted) => Err(wait_at(walk, noted.first)),
     }
 }

@@ -6,15 +6,16 @@ use native.Mathlib.Omega.{arith}
 use mathlib.Core.Path.{◌≡◌, refl, sym, ap, ◌∙◌}
 use mathlib.Core.Bool.{Bool, true, false, cond}
 use mathlib.Core.List.{List, [], ◌∷◌, ◌++◌, append_assoc, flatten}
-use lib.ListN.{length, get_or, take, drop, set, length-append}
-use lib.Seq.{sets, length-sets, drop-drop, take_all}
+use lib.ListN.{length, get_or, drop, set, length-append}
+use lib.Seq.{sets, length-sets, drop-drop}
 use Rattle.fiber_bytes.specs.Bytes.{part}
-use Rattle.fiber_bytes.proofs.BytesLaws.{part_length, sets_append, sets_then, sets_fill, one_less}
+use Rattle.fiber_bytes.proofs.BytesLaws.{part_length, sets_append, sets_then, one_less}
 use Rattle.fiber_witness.specs.Witness.{record_len, chunks, state_bytes}
 use Rattle.fiber_witness.specs.Update.{keep, share_left, standing, state_left, state_after}
-use Rattle.fiber_witness.specs.inner.Marks.{Marks, marked, no_marks}
+use Rattle.std.specs.Prelude.{Some, None, count_by, not}
+use Rattle.fiber_witness.specs.inner.Marks.{Marks, marked, listed}
 use Rattle.fiber_witness.specs.inner.Strided.{strided, unmarked}
-use Rattle.fiber_witness.proofs.UpdateLaws.{marks_marked, marks_none, marks_set, keep_marked, keep_few, part_between}
+use Rattle.fiber_witness.proofs.UpdateLaws.{marks_marked, marks_set, keep_marked, keep_few, counted_standing}
 
 -- ---- the records
 
@@ -52,20 +53,23 @@ module _ (h : ℕ) (s : List ℕ) (from stride n : ℕ) (marks : List Bool) wher
   unmarked_few = omega (arith, keep_few (marked marks) (strided (record_len h) stride n s from) 0, strided_length (record_len h) stride n s from)
 
   -- by the list of the marked places
-  pub unmarked_keep : (settled : List ℕ) → Marks marks settled → unmarked h s from stride n marks ≡ keep settled 0 (strided (record_len h) stride n s from)
+  pub unmarked_keep : (settled : List ℕ) → Marks marks settled → n ≤ length marks → unmarked h s from stride n marks ≡ keep settled 0 (strided (record_len h) stride n s from)
   unfolding unmarked
-  unmarked_keep settled m = keep_marked marks settled m 0 (strided (record_len h) stride n s from)
+  unmarked_keep settled m g = keep_marked marks settled m (strided (record_len h) stride n s from) (omega (arith, g, strided_length (record_len h) stride n s from))
 
--- and a count of those that are kept, whatever they are, is theirs
-pub unmarked_count : (h : ℕ) (s : List ℕ) (from stride n : ℕ) (marks : List Bool) (k : ℕ) → ((rs : List (List ℕ)) → length rs ≡ n → k ≡ length (keep (marked marks) 0 rs))
-    → k ≡ length (unmarked h s from stride n marks)
+-- and the count of the marks that are not set is theirs
+pub unmarked_count : (h : ℕ) (s : List ℕ) (from stride : ℕ) (marks : List Bool) → count_by not marks ≡ length (unmarked h s from stride (length marks) marks)
 unfolding unmarked
-unmarked_count h s from stride n marks k f = f (strided (record_len h) stride n s from) (strided_length (record_len h) stride n s from)
+unmarked_count h s from stride marks = counted_standing marks (strided (record_len h) stride (length marks) s from) (strided_length (record_len h) stride (length marks) s from)
 
--- one mark alone
-pub marks_one : (marks : List Bool) (place : ℕ) → marks ≡ no_marks → place ≤ 255 → Marks (set marks place true) (place ∷ [])
-unfolding no_marks
-marks_one marks place e g = rw e (marks_set no_marks [] place (omega arith) marks_none)
+-- one mark alone, and none
+pub marks_one : (marks : List Bool) (place : ℕ) → Marks marks [] → Marks (set marks place true) (listed (Some place))
+unfolding listed
+marks_one marks place m = marks_set marks [] place m
+
+pub marks_listed : (marks : List Bool) → Marks marks [] → Marks marks (listed None)
+unfolding listed
+marks_listed marks m = m
 
 -- with two shares, unlocked or not, they are the state left
 pub unmarked_left : (h : ℕ) (w : List ℕ) (n share_place : ℕ) (marks : List Bool) (remote local : Bool)
@@ -76,7 +80,7 @@ unmarked_left h w n share_place marks remote local = rw (unmarked_standing h w n
 
 -- ---- writing the records that are not marked
 
-module _ (h : ℕ) (s : List ℕ) (from₀ stride n : ℕ) (marks : List Bool) where
+module _ (h : ℕ) (s : List ℕ) (from₀ stride n : ℕ) (marks : List Bool) (l : length marks ≡ n) where
   -- what is left to write: the records from place i on, read from place from
   unfoldable pub rest : ℕ → ℕ → List ℕ
   rest from i = flatten (keep (marked marks) i (strided (record_len h) stride (n - i) s from))
@@ -119,7 +123,7 @@ module _ (h : ℕ) (s : List ℕ) (from₀ stride n : ℕ) (marks : List Bool) w
           ≡ flatten (cond b (keep (marked marks) (i + 1) (strided (record_len h) stride (n - (i + 1)) s (from + stride)))
           (part s from (record_len h) ∷ keep (marked marks) (i + 1) (strided (record_len h) stride (n - (i + 1)) s (from + stride))))
       unfolding rest keep strided Marks
-      rest_cons b m = rw (one_less n i g, sym (marks_marked marks i) ∙ m)
+      rest_cons b m = rw (one_less n i g, sym (marks_marked marks i (omega (arith, l, g))) ∙ m)
 
       -- a record that is marked is passed
       pub writing_gone : get_or marks i false ≡ true → Writing out₀ out (from + stride) at (i + 1)
@@ -165,15 +169,6 @@ module _ (h : ℕ) (s : List ℕ) (from₀ stride n : ℕ) (marks : List Bool) w
             }
 
 -- ---- a state
-
--- a share that was copied over 36 bytes
-pub share_copied : (w : List ℕ) (from : ℕ) (o l : List ℕ) → length o ≡ 36 → from + 36 ≤ length w → l ≡ sets o 0 (take (from + 36 - from) (drop from w)) → l ≡ part w from 36
-share_copied w from o l e g f =
-    let m : length (part w from 36) ≡ 36 = part_length w from 36 g in
-    f
-    ∙ ap (sets o 0) (part_between w from 36)
-    ∙ sets_fill o (part w from 36) (omega arith)
-    ∙ take_all (length o) (part w from 36) (omega arith)
 
 module _ (rs : List (List ℕ)) (remote local : List ℕ) (e : length remote ≡ 36) (f : length local ≡ 36) where
   -- the four writes of a state are one

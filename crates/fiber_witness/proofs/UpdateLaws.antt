@@ -9,7 +9,7 @@ use mathlib.Core.Bool.{Bool, true, false, cond, ◌||◌}
 use mathlib.Core.List.{List, [], ◌∷◌, ◌++◌, append-nil, flatten}
 use lib.Dec.{eqb, ltb}
 use lib.ListN.{length, get_or, take, drop, set, replicate, drop_of_length-le, length-set, length-take, length-drop}
-use lib.Seq.{sets, drop-cons, take_all, get_or-set_same, get_or-set_other}
+use lib.Seq.{sets, drop-cons, take_all, get_or-set_same, get_or-set_other, get_or-take}
 use borrow.Author.Tests.{lt-ltb, le-ltb, eq-eqb, ne_eqb, eqb-true, eqb-false}
 use Rattle.fiber_bytes.specs.Bytes.{part}
 use Rattle.fiber_bytes.proofs.BytesLaws.{part_length}
@@ -21,11 +21,11 @@ use Rattle.fiber_refusal.specs.declared.Refusal.TheVariants.{UnlockUnknown, Sett
 use Rattle.fiber_types.specs.Records.{Outcome, outcome}
 use Rattle.fiber_types.proofs.RecordsLaws.{outcome_short, outcome_whole}
 use Rattle.fiber_witness.specs.declared.witness.WitnessLayout.{WitnessLayout}
-use Rattle.fiber_witness.specs.declared.unlocks.TakenUnlocks.{TakenUnlocks}
+use Rattle.fiber_witness.specs.declared.shares.UnlockedShares.{UnlockedShares}
 use Rattle.fiber_witness.specs.Witness.{record_len, unlock_len, chunks, member, places, read_witness}
 use Rattle.fiber_witness.specs.Update.{Taken, none, Unlocked, fine, faulty, take_unlocks, keep, share_left, standing, state_left, by_read, unlocked, written, updated, state_after}
 use Rattle.fiber_witness.specs.inner.Strided.{behind_tlcs}
-use Rattle.fiber_witness.specs.inner.Marks.{Marks, marked_from, marked, no_marks}
+use Rattle.fiber_witness.specs.inner.Marks.{Marks, marked_from, marked}
 use Rattle.fiber_witness.specs.inner.Taking.{TakesAs}
 use Rattle.fiber_witness.proofs.WitnessLaws as WitnessCase
 use Rattle.fiber_witness.proofs.WitnessLaws.{FineRead, places_nil, places_cons, read_fine, Even, even_none, even_more, flatten_even, records_length, even_records, state_size}
@@ -63,7 +63,7 @@ marked_from_lem (b ∷ bs) i (suc j) =
 -- marks say what the list of the marked places says
 pub marks_marked : (marks : List Bool) → Marks marks (marked marks)
 unfolding Marks marked
-marks_marked marks i = rw zero-add at (marked_from_lem marks 0 i)
+marks_marked marks i h = rw zero-add at (marked_from_lem marks 0 i)
 
 -- a repeat of false has no true
 none_marked : (m i : ℕ) → get_or (replicate m false) i false ≡ false
@@ -72,18 +72,35 @@ none_marked (suc m) zero = refl
 none_marked (suc m) (suc i) = none_marked m i
 
 -- no mark is set, and no place is settled
-pub marks_none : Marks no_marks []
-unfolding Marks no_marks member
-marks_none i = none_marked 256 i
+pub marks_none : (m : ℕ) → Marks (replicate m false) []
+unfolding Marks member
+marks_none m i h = none_marked m i
+
+-- those in front say the same of their places
+pub marks_front : (n : ℕ) (marks : List Bool) (s : List ℕ) → Marks marks s → Marks (take n marks) s
+unfolding Marks
+marks_front n marks s m i h =
+    let l = length-take n marks in
+    get_or-take n marks i false (omega (arith, h, l)) ∙ m i (omega (arith, h, l))
+
+-- as many of them as a byte says, and as many whatever is set since
+pub marks_all : (n : ℕ) → n ≤ 255 → n ≡ length (take n (replicate 256 false))
+marks_all n h = omega (arith, length-take n (replicate 256 false))
+
+pub marks_long : (n : ℕ) (marks : List Bool) → n ≤ 255 → length marks ≡ length (take n (replicate 256 false)) → length marks ≡ n
+marks_long n marks h e = e ∙ sym (marks_all n h)
 
 -- one place more
-pub marks_set : (marks : List Bool) (s : List ℕ) (b : ℕ) → b < length marks → Marks marks s → Marks (set marks b true) (b ∷ s)
+pub marks_set : (marks : List Bool) (s : List ℕ) (b : ℕ) → Marks marks s → Marks (set marks b true) (b ∷ s)
 unfolding Marks member
-marks_set marks s b h m i = go (eqb i b) refl
+marks_set marks s b m i h = go (eqb i b) refl
   where
+    below : i < length marks
+    below = omega (arith, h, length-set marks b true)
+
     go : (t : Bool) → eqb i b ≡ t → get_or (set marks b true) i false ≡ (t || member i s)
-    go true e = rw (eqb-true i b e) (get_or-set_same marks b true false h)
-    go false e = get_or-set_other marks b i true false (eqb-false i b e) ∙ m i
+    go true e = rw (eqb-true i b e) (get_or-set_same marks b true false (rw (eqb-true i b e) at below))
+    go false e = get_or-set_other marks b i true false (eqb-false i b e) ∙ m i below
 
 -- ---- the records that stand
 
@@ -97,16 +114,16 @@ pub keep_more : (s : List ℕ) (i : ℕ) (r : List ℕ) (rs : List (List ℕ)) �
 unfolding keep
 keep_more s i r rs = refl
 
--- what is kept depends on which places are settled, and not on their order
-pub keep_same : (s t : List ℕ) → ((i : ℕ) → member i s ≡ member i t) → (i : ℕ) (rs : List (List ℕ)) → keep s i rs ≡ keep t i rs
+-- what is kept depends on which of their places are settled, and not on the order
+pub keep_same : (s t : List ℕ) (i : ℕ) (rs : List (List ℕ)) → ((j : ℕ) → j < i + length rs → member j s ≡ member j t) → keep s i rs ≡ keep t i rs
 unfolding keep
-keep_same s t e i [] = refl
-keep_same s t e i (r ∷ rs) = rw (e i, keep_same s t e (i + 1) rs)
+keep_same s t i [] e = refl
+keep_same s t i (r ∷ rs) e = rw (e i (omega arith), keep_same s t (i + 1) rs (λ j h. e j (omega (arith, h))))
 
 -- so marks keep what the list of settled places keeps
-pub keep_marked : (marks : List Bool) (s : List ℕ) → Marks marks s → (i : ℕ) (rs : List (List ℕ)) → keep (marked marks) i rs ≡ keep s i rs
+pub keep_marked : (marks : List Bool) (s : List ℕ) → Marks marks s → (rs : List (List ℕ)) → length rs ≤ length marks → keep (marked marks) 0 rs ≡ keep s 0 rs
 unfolding Marks
-keep_marked marks s m = keep_same (marked marks) s (λ i. sym (marks_marked marks i) ∙ m i)
+keep_marked marks s m rs g = keep_same (marked marks) s 0 rs (λ j h. sym (marks_marked marks j (omega (arith, h, g))) ∙ m j (omega (arith, h, g)))
 
 -- those kept from place i on, one place on
 pub keep_cons : (s : List ℕ) (rs : List (List ℕ)) (i : ℕ) → i < length rs
@@ -198,42 +215,41 @@ pub record All (n share_place : ℕ) (marks : List Bool) (remote local : Bool) (
   pub local_is : local ≡ taken.local
 
 -- what `take_unlocks` answers tells which it is
-pub takes_all : {n share_place : ℕ} {x : Unlocked} (v : TakenUnlocks) → Comes n share_place x → TakesAs x (Ok v) → All n share_place v.settled v.remote v.local x
+pub takes_all : {n share_place : ℕ} {x : Unlocked} (v : UnlockedShares) (marks : List Bool) → Comes n share_place x → TakesAs x (Ok v) marks → All n share_place marks v.remote v.local x
 unfolding TakesAs
-takes_all v (comes_fine t) j = record { taken = t; is = refl; says = j.0; remote_is = j.1.0; local_is = j.1.1 }
-takes_all v (comes_faulty r) j = absurd j
+takes_all v marks (comes_fine t) j = record { taken = t; is = refl; says = j.0; remote_is = j.1.0; local_is = j.1.1 }
+takes_all v marks (comes_faulty r) j = absurd j
 
-pub takes_faulty : {n share_place : ℕ} {x : Unlocked} (r : Refusal) → Comes n share_place x → TakesAs x (Err r) → x ≡ faulty r
+pub takes_faulty : {n share_place : ℕ} {x : Unlocked} (r : Refusal) (marks : List Bool) → Comes n share_place x → TakesAs x (Err r) marks → x ≡ faulty r
 unfolding TakesAs
-takes_faulty r (comes_fine t) j = absurd j
-takes_faulty r (comes_faulty q) j = ap faulty (sym j)
+takes_faulty r marks (comes_fine t) j = absurd j
+takes_faulty r marks (comes_faulty q) j = ap faulty (sym j)
 
 -- The loop over the unlocks, at place at: to take the rest, from what was taken, gives what taking all gives.
 pub record Taking (n : ℕ) (w : List ℕ) (first : ℕ) (marks : List Bool) (remote local : Bool) (at : ℕ) : Type 0 where
   pub settled : List ℕ
-  pub long : length marks ≡ 256
+  pub long : length marks ≡ n
   pub says : Marks marks settled
   pub rest : (share_place : ℕ) → take_unlocks n share_place w (record { settled = settled; remote = remote; local = local }) (places w at) ≡ take_unlocks n share_place w none (places w first)
 
 -- before the first, nothing is taken
-pub taking_start : (n : ℕ) (w : List ℕ) (first : ℕ) → Taking n w first no_marks false false first
-unfolding no_marks
-taking_start n w first = record { settled = []; long = refl; says = marks_none; rest = λ share_place. refl }
+pub taking_start : (w : List ℕ) (first : ℕ) (marks : List Bool) → Marks marks [] → Taking (length marks) w first marks false false first
+taking_start w first marks m = record { settled = []; long = refl; says = m; rest = λ share_place. refl }
 
 module _ (n : ℕ) (w : List ℕ) (first : ℕ) (marks : List Bool) (remote local : Bool) (at : ℕ) (c : Taking n w first marks remote local at) where
   abbrev all : ℕ → Unlocked
   all share_place = take_unlocks n share_place w none (places w first)
 
   -- at the end every unlock is taken
-  pub taking_end : length w ≤ at → (share_place : ℕ) → TakesAs (all share_place) (Ok (record { settled = marks; remote = remote; local = local }))
+  pub taking_end : length w ≤ at → (share_place : ℕ) → TakesAs (all share_place) (Ok (record { remote = remote; local = local })) marks
   unfolding take_unlocks TakesAs
   taking_end h share_place =
-      subst (λ (x : Unlocked). TakesAs x (Ok (record { settled = marks; remote = remote; local = local }))) (rw (places_nil w at h) at (c.rest share_place)) (c.says, (refl, refl))
+      subst (λ (x : Unlocked). TakesAs x (Ok (record { remote = remote; local = local })) marks) (rw (places_nil w at h) at (c.rest share_place)) (c.says, (refl, refl))
 
   -- turned down by a row
-  turned : (r : Refusal) (share_place : ℕ) → faulty r ≡ all share_place → TakesAs (all share_place) (Err r)
+  turned : (r : Refusal) (share_place : ℕ) → faulty r ≡ all share_place → TakesAs (all share_place) (Err r) marks
   unfolding TakesAs
-  turned r share_place f = subst (λ (x : Unlocked). TakesAs x (Err r)) f refl
+  turned r share_place f = subst (λ (x : Unlocked). TakesAs x (Err r) marks) f refl
 
   module _ (h : at < length w) where
     -- 0xFF
@@ -249,7 +265,7 @@ module _ (n : ℕ) (w : List ℕ) (first : ℕ) (marks : List Bool) (remote loca
 
       module _ (b : get_or w at 0 ≡ 254 → ⊥) where
         -- row 5
-        pub taking_beyond : n ≤ get_or w at 0 → (share_place : ℕ) → TakesAs (all share_place) (Err (UnlockUnknown at))
+        pub taking_beyond : n ≤ get_or w at 0 → (share_place : ℕ) → TakesAs (all share_place) (Err (UnlockUnknown at)) marks
         unfolding take_unlocks
         taking_beyond f share_place =
             turned (UnlockUnknown at) share_place
@@ -257,20 +273,20 @@ module _ (n : ℕ) (w : List ℕ) (first : ℕ) (marks : List Bool) (remote loca
 
         module _ (f : get_or w at 0 < n) where
           -- row 6
-          pub taking_twice : get_or marks (get_or w at 0) false ≡ true → (share_place : ℕ) → TakesAs (all share_place) (Err (SettledTwice at))
+          pub taking_twice : get_or marks (get_or w at 0) false ≡ true → (share_place : ℕ) → TakesAs (all share_place) (Err (SettledTwice at)) marks
           unfolding take_unlocks Marks
           taking_twice d share_place =
               turned (SettledTwice at) share_place
-              (rw (places_cons w at h, ne_eqb (get_or w at 0) 255 a, ne_eqb (get_or w at 0) 254 b, lt-ltb (get_or w at 0) n f, sym (c.says (get_or w at 0)) ∙ d) at (c.rest share_place))
+              (rw (places_cons w at h, ne_eqb (get_or w at 0) 255 a, ne_eqb (get_or w at 0) 254 b, lt-ltb (get_or w at 0) n f, sym (c.says (get_or w at 0) (omega (arith, c.long))) ∙ d) at (c.rest share_place))
 
           -- a TLC
-          pub taking_tlc : get_or w at 0 < 256 → get_or marks (get_or w at 0) false ≡ false → Taking n w first (set marks (get_or w at 0) true) remote local (at + unlock_len w at)
+          pub taking_tlc : get_or marks (get_or w at 0) false ≡ false → Taking n w first (set marks (get_or w at 0) true) remote local (at + unlock_len w at)
           unfolding take_unlocks Marks
-          taking_tlc g d = record {
+          taking_tlc d = record {
             settled = get_or w at 0 ∷ c.settled;
             long = length-set marks (get_or w at 0) true ∙ c.long;
-            says = marks_set marks c.settled (get_or w at 0) (omega (arith, c.long)) c.says;
-            rest = λ share_place. rw (places_cons w at h, ne_eqb (get_or w at 0) 255 a, ne_eqb (get_or w at 0) 254 b, lt-ltb (get_or w at 0) n f, sym (c.says (get_or w at 0)) ∙ d) at (c.rest share_place);
+            says = marks_set marks c.settled (get_or w at 0) c.says;
+            rest = λ share_place. rw (places_cons w at h, ne_eqb (get_or w at 0) 255 a, ne_eqb (get_or w at 0) 254 b, lt-ltb (get_or w at 0) n f, sym (c.says (get_or w at 0) (omega (arith, c.long))) ∙ d) at (c.rest share_place);
           }
 
 -- ---- counting the records that stand
@@ -282,14 +298,14 @@ counted_from marks [] i h = refl
 counted_from marks (r ∷ rs) i h =
     let m : drop i marks ≡ get_or marks i false ∷ drop (i + 1) marks = rw add-one (drop-cons marks i false (omega arith)) in
     let next : count_by not (take (length rs) (drop (i + 1) marks)) ≡ length (keep (marked marks) (i + 1) rs) = counted_from marks rs (i + 1) (omega arith) in
-    rw (m, sym (marks_marked marks i)) (go (get_or marks i false) (take (length rs) (drop (i + 1) marks)) (keep (marked marks) (i + 1) rs) next)
+    rw (m, sym (marks_marked marks i (omega arith))) (go (get_or marks i false) (take (length rs) (drop (i + 1) marks)) (keep (marked marks) (i + 1) rs) next)
   where
     go : (b : Bool) (l : List Bool) (ks : List (List ℕ)) → count_by not l ≡ length ks → count_by not (b ∷ l) ≡ length (cond b ks (r ∷ ks))
     go true l ks e = sum_by-cons (λ x. cond (not x) 1 0) true l ∙ omega (arith, e)
     go false l ks e = sum_by-cons (λ x. cond (not x) 1 0) false l ∙ omega (arith, e)
 
-pub counted_standing : (n : ℕ) (marks : List Bool) → n ≤ length marks → (rs : List (List ℕ)) → length rs ≡ n → count_by not (take n marks) ≡ length (keep (marked marks) 0 rs)
-counted_standing n marks h rs e = rw (← e) (counted_from marks rs 0 (omega arith))
+pub counted_standing : (marks : List Bool) (rs : List (List ℕ)) → length rs ≡ length marks → count_by not marks ≡ length (keep (marked marks) 0 rs)
+counted_standing marks rs e = ap (count_by not) (sym (take_all (length rs) marks (omega arith))) ∙ counted_from marks rs 0 (omega arith)
 
 -- ---- stores to a part
 
@@ -349,56 +365,56 @@ module _ (h : ℕ) (w : List ℕ) (n share_place : ℕ) (t : Taken) (g : share_p
 
 -- ---- what follows the reading
 
--- with a count k as `count_standing` gives it
-module _ (h : ℕ) (w : List ℕ) (n : ℕ) (settled : List ℕ) (k : ℕ) (f : (rs : List (List ℕ)) → length rs ≡ n → k ≡ length (keep settled 0 rs)) where
+-- with the marks of all n TLCs, and a count k as `count_standing` gives it
+module _ (h : ℕ) (w : List ℕ) (n : ℕ) (marks : List Bool) (l : length marks ≡ n) (k : ℕ) (f : k ≡ count_by not marks) where
   -- k stand
-  pub counted : k ≡ length (standing h w n settled)
+  pub counted : k ≡ length (standing h w n (marked marks))
   unfolding standing
-  counted = f (chunks (record_len h) n (drop 2 w)) (records_length (record_len h) n (drop 2 w))
+  counted = f ∙ counted_standing marks (chunks (record_len h) n (drop 2 w)) (records_length (record_len h) n (drop 2 w) ∙ sym l)
 
   -- their bytes are no more than those of all n
   pub counted_room : k * record_len h ≤ n * record_len h
-  counted_room = mul-le-mul_right (record_len h) (omega (arith, counted, standing_few h w n settled))
+  counted_room = mul-le-mul_right (record_len h) (omega (arith, counted, standing_few h w n (marked marks)))
 
   -- they have so many bytes
-  pub counted_flat : behind_tlcs h n ≤ length w → length (flatten (standing h w n settled)) ≡ k * record_len h
-  counted_flat g = standing_length h w n settled g ∙ ap (λ (j : ℕ). j * record_len h) (sym counted)
+  pub counted_flat : behind_tlcs h n ≤ length w → length (flatten (standing h w n (marked marks))) ≡ k * record_len h
+  counted_flat g = standing_length h w n (marked marks) g ∙ ap (λ (j : ℕ). j * record_len h) (sym counted)
 
   -- and so the state left has so many bytes
   pub counted_size : (remote local : Bool) → behind_tlcs h n + 72 ≤ length w
-      → length (state_left h w n (behind_tlcs h n) (record { settled = settled; remote = remote; local = local })) ≡ 73 + k * record_len h
+      → length (state_left h w n (behind_tlcs h n) (record { settled = marked marks; remote = remote; local = local })) ≡ 73 + k * record_len h
   counted_size remote local g =
-      omega (arith, state_length h w n (behind_tlcs h n) (record { settled = settled; remote = remote; local = local }) g, counted_flat (omega arith))
+      omega (arith, state_length h w n (behind_tlcs h n) (record { settled = marked marks; remote = remote; local = local }) g, counted_flat (omega arith))
 
 -- with the answer of `take_unlocks`
-module _ (h : ℕ) (w out : List ℕ) (n share_place first : ℕ) where
+module _ (h : ℕ) (w out : List ℕ) (n share_place first : ℕ) (marks : List Bool) (l : length marks ≡ n) where
   abbrev ended : Outcome (Result ℕ Refusal)
   ended = written h w out (take_unlocks n share_place w none (places w first))
 
   -- row 5 or 6, and nothing is written
-  pub settled_refused : (r : Refusal) → TakesAs (take_unlocks n share_place w none (places w first)) (Err r) → (Err r ≡ ended.answer) × (out ≡ ended.bytes)
+  pub settled_refused : (r : Refusal) → TakesAs (take_unlocks n share_place w none (places w first)) (Err r) marks → (Err r ≡ ended.answer) × (out ≡ ended.bytes)
   unfolding written
-  settled_refused r j = let f = takes_faulty r (unlocks_come n share_place w none (places w first)) j in (rw f, rw f)
+  settled_refused r j = let f = takes_faulty r marks (unlocks_come n share_place w none (places w first)) j in (rw f, rw f)
 
-  module _ (v : TakenUnlocks) (j : TakesAs (take_unlocks n share_place w none (places w first)) (Ok v)) where
+  module _ (v : UnlockedShares) (j : TakesAs (take_unlocks n share_place w none (places w first)) (Ok v) marks) where
     -- the state by the marks is the state by the list; where every unlock is taken, it is written
-    settled_fine : ended ≡ outcome true (state_left h w n share_place (record { settled = marked v.settled; remote = v.remote; local = v.local })) out
+    settled_fine : ended ≡ outcome true (state_left h w n share_place (record { settled = marked marks; remote = v.remote; local = v.local })) out
     unfolding written state_left state_after
-    settled_fine = go (takes_all v (unlocks_come n share_place w none (places w first)) j)
+    settled_fine = go (takes_all v marks (unlocks_come n share_place w none (places w first)) j)
       where
-        go : All n share_place v.settled v.remote v.local (take_unlocks n share_place w none (places w first))
-            → ended ≡ outcome true (state_left h w n share_place (record { settled = marked v.settled; remote = v.remote; local = v.local })) out
-        go t = rw (t.is, keep_marked v.settled t.taken.settled t.says 0 (chunks (record_len h) n (drop 2 w)), t.remote_is, t.local_is)
+        go : All n share_place marks v.remote v.local (take_unlocks n share_place w none (places w first))
+            → ended ≡ outcome true (state_left h w n share_place (record { settled = marked marks; remote = v.remote; local = v.local })) out
+        go t = rw (t.is, keep_marked marks t.taken.settled t.says (chunks (record_len h) n (drop 2 w)) (omega (arith, l, records_length (record_len h) n (drop 2 w))), t.remote_is, t.local_is)
 
-    module _ (size : ℕ) (l : length (state_left h w n share_place (record { settled = marked v.settled; remote = v.remote; local = v.local })) ≡ size) where
+    module _ (size : ℕ) (z : length (state_left h w n share_place (record { settled = marked marks; remote = v.remote; local = v.local })) ≡ size) where
       -- row 13, and nothing is written
       pub settled_short : length out < size → (Err (OutputShort size) ≡ ended.answer) × (out ≡ ended.bytes)
-      settled_short f = rw settled_fine (outcome_short true _ out refl size l f)
+      settled_short f = rw settled_fine (outcome_short true _ out refl size z f)
 
       -- all is written
-      pub settled_written : size ≤ length out → (out' : List ℕ) → out' ≡ sets out 0 (state_left h w n share_place (record { settled = marked v.settled; remote = v.remote; local = v.local }))
+      pub settled_written : size ≤ length out → (out' : List ℕ) → out' ≡ sets out 0 (state_left h w n share_place (record { settled = marked marks; remote = v.remote; local = v.local }))
           → (Ok size ≡ ended.answer) × (out' ≡ ended.bytes)
-      settled_written f out' d = rw settled_fine (outcome_whole true _ out refl size l f out' d)
+      settled_written f out' d = rw settled_fine (outcome_whole true _ out refl size z f out' d)
 
 -- ---- the whole update
 

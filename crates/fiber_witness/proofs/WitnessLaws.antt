@@ -16,7 +16,7 @@ use Rattle.fiber_bytes.proofs.CaseLaws.{by_test, by_test₂}
 use Rattle.fiber_types.specs.declared.unlock.Unlock.{Unlock}
 use Rattle.std.specs.Prelude.{Result, Ok, Err}
 use Rattle.fiber_refusal.specs.declared.Refusal.{Refusal}
-use Rattle.fiber_refusal.specs.declared.Refusal.TheVariants.{WitnessShort, TlcCut, SharesCut, UnlockCut, NotWell}
+use Rattle.fiber_refusal.specs.declared.Refusal.TheVariants.{WitnessShort, TlcCut, SharesCut, NotWell}
 use Rattle.fiber_types.specs.HashLen.{valid_hash_len}
 use Rattle.fiber_types.specs.Records.{witness_len, read_unlock}
 use Rattle.fiber_types.proofs.RecordsLaws.{hash_len_small, at_least}

@@ -11,8 +11,7 @@ use crate::shares::Shares;
 use fiber_bytes::put;
 use fiber_types::layout::{SHARE_LEN, SHARES};
 
-// The one writer of a record, into the part of an output where it belongs, which begins at byte 1 + k(65 + h) of a state. For the
-// update, for what a choice hands out, and for first records.
+// A record that is there, into the part of an output where it belongs, which begins at byte 1 + k(65 + h) of a state.
 pub fn put_record(tlc: &[u8], out: &mut [u8])
     ensures { out.new ≡ sets out.old 0 tlc.now }
 {
@@ -27,10 +26,9 @@ fn put_records(records: &Records<'_>, out: &mut [u8]) -> usize
 {
     let size = records.h.record_len();
     let source = records.source;
-    let marks = records.marks;
     let mut from = records.from;
     let mut at = 1;
-    for settled in &marks.settled[..marks.n] {
+    for settled in records.marks {
         if !*settled {
             put_record(&source[from..from + size], &mut out[at..]);
             at += size;
@@ -41,13 +39,13 @@ fn put_records(records: &Records<'_>, out: &mut [u8]) -> usize
 }
 
 // Writes a state to the front of out; answers its length.
-pub fn put_state(records: &Records<'_>, shares: &Shares, out: &mut [u8]) -> usize
+pub fn put_state(records: &Records<'_>, shares: &Shares<'_>, out: &mut [u8]) -> usize
     requires { 73 + length (flatten (standing_of records.now)) ≤ length out.old }
-    ensures { Fronts (state_bytes (standing_of records.now) shares.now.remote shares.now.local) out.old result out.new }
+    ensures { Fronts (state_bytes (standing_of records.now) shares.now.remote.now shares.now.local.now) out.old result out.new }
 {
-    out[0] = records.marks.count_standing() as u8;
+    out[0] = records.standing as u8;
     let at = put_records(records, out);
-    put(out, at, &shares.remote);
-    put(out, at + SHARE_LEN, &shares.local);
+    put(out, at, shares.remote);
+    put(out, at + SHARE_LEN, shares.local);
     at + SHARES
 }

@@ -1,31 +1,28 @@
 // What the unlocks of a witness do: they are taken in order, before anything is written.
-ghost use Rattle.std.specs.Prelude.{ℕ};
+ghost use Rattle.std.specs.Prelude.{◌≡◌, ℕ, length, []};
 ghost use Rattle.fiber_witness.specs.Witness.{places};
 ghost use Rattle.fiber_witness.specs.Update as S;
+ghost use Rattle.fiber_witness.specs.inner.Marks.{Marks};
 ghost use Rattle.fiber_witness.specs.inner.Taking.{TakesAs};
 
-use crate::marks::no_marks;
+use crate::shares::UnlockedShares;
 use fiber_refusal::Refusal;
 use fiber_types::layout::{UNLOCK_LOCAL, UNLOCK_REMOTE};
 use fiber_types::unlock;
 
-// A mark for each place whose TLC the unlocks settle, and whether they unlock a share.
-#[derive(Clone, Copy)]
-pub struct TakenUnlocks {
-    pub settled: [bool; 256],
-    pub remote: bool,
-    pub local: bool,
-}
-
-// Takes the unlocks from the first on, in order, of a witness with n TLCs.
-pub fn take_unlocks(w: &[u8], n: usize, first_unlock: usize) -> Result<TakenUnlocks, Refusal>
-    ensures { (share_place : ℕ) → TakesAs (S.take_unlocks n share_place w.now S.none (places w.now first_unlock)) result }
+// Takes the unlocks from the first on, in order, and marks the TLCs that they settle, of which each has a mark.
+pub fn take_unlocks(
+    w: &[u8],
+    first_unlock: usize,
+    settled: &mut [bool],
+) -> Result<UnlockedShares, Refusal>
+    requires { Marks settled.old [] }
+    ensures { (share_place : ℕ) → TakesAs (S.take_unlocks (length settled.new) share_place w.now S.none (places w.now first_unlock)) result settled.new }
 {
-    let mut settled = no_marks();
     let mut remote = false;
     let mut local = false;
     let mut at = first_unlock;
-    // Where an unlock ends only itself says, so that no iterator has a step.
+    // Where an unlock ends only itself says: an iterator over them would have this loop inside.
     while at < w.len() {
         let b = w[at] as usize;
         if b == UNLOCK_LOCAL {
@@ -33,7 +30,7 @@ pub fn take_unlocks(w: &[u8], n: usize, first_unlock: usize) -> Result<TakenUnlo
         } else if b == UNLOCK_REMOTE {
             remote = true;
         } else {
-            if n <= b {
+            if settled.len() <= b {
                 return Err(Refusal::UnlockUnknown(at));
             }
             if settled[b] {
@@ -47,9 +44,5 @@ pub fn take_unlocks(w: &[u8], n: usize, first_unlock: usize) -> Result<TakenUnlo
         };
         at += u.witness_len();
     }
-    Ok(TakenUnlocks {
-        settled,
-        remote,
-        local,
-    })
+    Ok(UnlockedShares { remote, local })
 }

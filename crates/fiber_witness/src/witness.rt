@@ -24,7 +24,7 @@ fn read_unlocks(w: &[u8], n: usize, share_place: usize) -> Result<WitnessLayout,
     let first_unlock = share_place + SHARES;
     let mut at = first_unlock;
     let mut unlock_count = 0;
-    // Where an unlock ends only itself says, so that no iterator has a step.
+    // Where an unlock ends only itself says: an iterator over them would have this loop inside.
     while at < w.len() {
         let u = unlock::read(w, at)?;
         at += u.witness_len();

@@ -15,6 +15,7 @@ use std::collections::BTreeMap;
 use std::{fs, io};
 use test_lines::{Tally, is_case};
 
+// As in `vectors`, but for how a line is read and what is counted apart: these few lines are each program's own.
 fn tallies(alloc: Global, list: &str) -> io::Result<BTreeMap<Kind, Tally>> {
     let mut tallies = BTreeMap::new(alloc);
     for line in list.lines().filter(|line| is_case(line)) {

@@ -19,8 +19,9 @@ use Rattle.fiber_bytes.specs.Bytes.{part}
 use Rattle.fiber_bytes.proofs.BytesLaws.{either, sets_append}
 use Rattle.std.specs.Prelude.{Result, Ok, Err}
 use Rattle.fiber_refusal.specs.declared.Refusal.{Refusal}
-use Rattle.fiber_refusal.specs.declared.Refusal.TheVariants.{NotWell}
+use Rattle.fiber_refusal.specs.declared.Refusal.TheVariants.{WitnessShort, TlcCut, SharesCut, UnlockCut, UnlockUnknown, SettledTwice, LengthZero, ScaledAbove, ArgsShort, NoDelay, TooManyTlcs, OutputShort, NotWell}
 use Rattle.fiber_refusal.specs.Rows.{number_of, place_of}
+use Rattle.fiber_refusal.specs.Rows as Rows
 use Rattle.fiber_types.specs.Records.{unwritten}
 use Rattle.fiber_witness.specs.Update.{updated}
 use Rattle.fiber_witness.proofs.LeftLaws as LeftCase
@@ -257,6 +258,35 @@ pub says_refused : (input buffer s : List ℕ) (r : Refusal) → Err r ≡ (of_i
     → (refused_text (number_of r) (place_of r) ≡ (reported input buffer).answer) × (s ≡ (reported input buffer).bytes)
 unfolding reported text_of
 says_refused input buffer s r e f = (rw (← e), f)
+
+-- ---- a refusal
+
+-- every row's number has 64 bits
+number_small : (r : Refusal) → number_of r < 2 ^ 64
+number_small (WitnessShort length) = omega arith
+number_small (TlcCut at) = omega arith
+number_small (SharesCut at) = omega arith
+number_small (UnlockCut at) = omega arith
+number_small (UnlockUnknown at) = omega arith
+number_small (SettledTwice at) = omega arith
+number_small LengthZero = omega arith
+number_small ScaledAbove = omega arith
+number_small ArgsShort = omega arith
+number_small NoDelay = omega arith
+number_small TooManyTlcs = omega arith
+number_small (OutputShort needed) = omega arith
+number_small NotWell = omega arith
+
+joined : (a b c d e : List ℕ) → a ++ b ++ c ++ d ++ e ≡ (a ++ (b ++ (c ++ d))) ++ e
+joined a b c d e = simp append_assoc
+
+-- What is written of a refusal is what fiber_refusal prints of it, its row's number and its place, and the end of the line. A place has 64 bits, as in the
+-- code, since `decimal` has room for 20 digits.
+pub refused_is_row : (h : ℕ) (buffer : List ℕ) (r : Refusal) → place_of r < 2 ^ 64 → text_of h buffer (Err r) ≡ Rows.text_of r ++ ascii "\n"
+unfolding text_of refused_text
+refused_is_row h buffer r f =
+    rw (decimal_is (number_of r) (number_small r), decimal_is (place_of r) f)
+    (joined (ascii "refused ") (std_decimal (number_of r)) (ascii " at ") (std_decimal (place_of r)) (ascii "\n"))
 
 -- ---- how long a text can be
 

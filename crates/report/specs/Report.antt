@@ -57,6 +57,8 @@ tlc_lines i (r ∷ rs) = tlc_line i r ++ tlc_lines (i + 1) rs
 unfoldable pub share_line : List ℕ → List ℕ → List ℕ
 share_line word s = word ++ hex (part s 0 20) ++ ascii " " ++ hex_highest (part s 20 16) ++ ascii "\n"
 
+-- number and place of a refusal
+-- laws: ReportLaws.antt, `refused_is_row`: of each row this is the text that fiber_refusal prints of it, and the end of the line
 unfoldable pub refused_text : ℕ → ℕ → List ℕ
 refused_text number place = ascii "refused " ++ decimal number ++ ascii " at " ++ decimal place ++ ascii "\n"
 

@@ -36,6 +36,7 @@ fn made_again<F: FnMut() -> Result<usize>>(clock: &impl Clock, mut call: F) -> R
     requires { F.IsAlwaysCallable call }
     ensures { (tries : List _) × (before : F) × (after : F) × FoldsTo F.step call tries before × F.step before result after }
 {
+    // By count: each turn is one more attempt at the same call, so that there is nothing else to go over.
     for _ in 0..AGAIN {
         match call() {
             Err(e) if again(clock, &e) => {}
@@ -64,6 +65,7 @@ pub fn read_all(rt: &HostRuntime, buf: &mut [u8]) -> Result<usize>
     ensures { IfOk result (λ n. n ≤ length buf.new) }
 {
     let mut at = 0;
+    // By hand: a read says itself how much it took, so that no iterator has a step.
     while at < buf.len() {
         match read_some(rt, &mut buf[at..])? {
             0 => break,
@@ -76,6 +78,7 @@ pub fn read_all(rt: &HostRuntime, buf: &mut [u8]) -> Result<usize>
 // Writes all of bytes, or fails at a write that fails or takes nothing; some of them may then have been written.
 pub fn write_all(rt: &HostRuntime, bytes: &[u8]) -> Result<()> {
     let mut rest = bytes;
+    // By hand: a write says itself how much it took, so that no iterator has a step.
     while !rest.is_empty() {
         match write_some(rt, rest)? {
             0 => {

@@ -9,7 +9,7 @@ use Rattle.fiber_choice.specs.declared.kinds.Key.{Key}
 use Rattle.fiber_choice.specs.declared.kinds.Key.TheVariants as KeyCase
 use Rattle.fiber_choice.specs.declared.kinds.Decision.{Decision}
 use Rattle.fiber_choice.specs.declared.kinds.NoChoice.TheVariants as NoChoiceCase
-use Rattle.fiber_choice.specs.Answered.{Answer as Chosen}
+use Rattle.fiber_choice.specs.Answered.{Answer as Chooses}
 use Rattle.fiber_bytes.specs.Bytes.{numbers}
 use Rattle.fiber_choice.specs.HandedOut.{choice_byte}
 use Rattle.fiber_choice.specs.Waits.{wait_number, wait_place}
@@ -56,7 +56,7 @@ decision_numbers d =
 -- ---- the call
 
 -- 152 bytes: behind the front the seventeen numbers
-unfoldable pub choose_answer : Chosen → Answer
+unfoldable pub choose_answer : Chooses → Answer
 choose_answer (Ok d) = fields (numbers (decision_numbers d))
 choose_answer (Err (NoChoiceCase.Wait wait)) = row (wait_number wait) (wait_place wait)
 choose_answer (Err (NoChoiceCase.Refused r)) = row (number_of r) (place_of r)

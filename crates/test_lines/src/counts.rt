@@ -22,6 +22,7 @@ impl Tally {
     }
 }
 
+// A struct with a ghost field has no derived Default.
 impl Default for Tally {
     ghost is_default = { λ tally. (tally.run ≡ 0) × (tally.agree ≡ 0) };
 

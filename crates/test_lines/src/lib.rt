@@ -32,6 +32,7 @@ pub fn unreadable(text: &str) -> io::Error
 }
 
 // Reads until the input ends or buf is full, and answers how many bytes now stand at the start of buf.
+// No program calls it: it brings a list into a lent buffer.
 pub fn read_full(input: &mut impl Read, buf: &mut [u8]) -> io::Result<usize>
     ensures { IfOk result (λ n. n ≤ length buf.new) }
 {
@@ -54,7 +55,7 @@ const NEWLINE: u8 = b'\n';
 // The digits that a byte has.
 const DIGITS: usize = 2;
 
-// The value of a digit, decimal or hexadecimal.
+// The value of a digit, decimal or hexadecimal. The crate hex turns down what is no digit; here it is 0, so that a line of a list is compared whatever it has.
 #[tactic(auto, using(std::proofs::lemmas::Bool::Decides::nat_tests), unfolding(crate::specs::Lines::digit))]
 pub fn digit(b: u8) -> u8
     ensures value { result ≡ S.digit b }
@@ -80,12 +81,13 @@ pub fn hex_at(s: &[u8], i: usize) -> u8
 }
 
 // Writes the bytes that s stands for to the front of out, as many as have room, and answers how many s has.
+// No program calls it: it is `decode` for a lent buffer, without the heap.
 pub fn unhex(s: &[u8], out: &mut [u8]) -> usize
     ensures value { result ≡ length s.now / 2 }
     ensures out_after { out.new ≡ sets out.old 0 (S.hex_bytes (length s.now / 2) s.now 0) }
 {
     let n = s.len() / 2;
-    // By place: the digits are twice as far on as the byte.
+    // By place: the digits of a byte are at twice its place, and fewer bytes may have room than there are.
     for i in 0..n.min(out.len()) {
         out[i] = hex_at(s, 2 * i);
     }
@@ -110,7 +112,8 @@ pub fn agrees(bytes: &[u8], s: &[u8]) -> bool
             .all(|(i, b)| *b == hex_at(s, 2 * i))
 }
 
-// A decimal number, modulo 2^64.
+// A decimal number, modulo 2^64: `parse` would turn down what is too long, and a byte that is no digit.
+// No program calls it: it reads a field of a list in a lent buffer.
 pub fn number(s: &[u8]) -> u64
     ensures { result ≡ S.number_from 0 s.now }
 {
@@ -121,6 +124,7 @@ pub fn number(s: &[u8]) -> u64
 }
 
 // The first place from at on that holds b or ends the line.
+// No program calls it: it finds where a field of a list in a lent buffer ends.
 pub fn find(s: &[u8], at: usize, b: u8) -> usize
     ensures value { result ≡ S.find s.now at b }
     ensures lower_bound { (at ≤ result) × (result ≤ max at (length s.now)) }

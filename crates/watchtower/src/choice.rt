@@ -83,7 +83,7 @@ pub fn choose(
     }
 }
 
-// A part of the witness in a later settlement, of the tracked list in a first one.
+// A part of the witness in a later settlement, of the tracked list in a first one. The flag is the one that `choose` was asked with.
 #[tactic(auto, unfolding(fiber_choice::specs::Choice::record_part))]
 fn record_part<'a>(
     is_later: bool,

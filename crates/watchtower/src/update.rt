@@ -5,7 +5,7 @@ ghost use Rattle.fiber_witness.specs.Update as S;
 use fiber_refusal::Refusal;
 use fiber_types::hash_len::HashLen;
 use fiber_types::layout::STATE_FIXED;
-use fiber_witness::marks::Marks;
+use fiber_witness::marks::{UNMARKED, count_standing};
 use fiber_witness::records::Records;
 use fiber_witness::shares::Shares;
 use fiber_witness::state::put_state;
@@ -17,13 +17,11 @@ fn settle(h: HashLen, w: &[u8], out: &mut [u8]) -> Result<usize, Refusal>
     ensures { Gives (S.updated h.bytes w.now out.old) result out.new }
 {
     let layout = witness::read(h.bytes, w)?;
-    let taken = take_unlocks(w, layout.n, layout.first_unlock)?;
-    let settled = taken.settled;
-    let marks = Marks {
-        settled,
-        n: layout.n,
-    };
-    let size = STATE_FIXED + marks.count_standing() * h.record_len();
+    let mut all = UNMARKED;
+    let marks = &mut all[..layout.n];
+    let unlocked = take_unlocks(w, layout.first_unlock, marks)?;
+    let standing = count_standing(marks);
+    let size = STATE_FIXED + standing * h.record_len();
     if out.len() < size {
         return Err(Refusal::OutputShort(size));
     }
@@ -32,9 +30,10 @@ fn settle(h: HashLen, w: &[u8], out: &mut [u8]) -> Result<usize, Refusal>
         from: 2,
         stride: h.record_len(),
         h,
-        marks: &marks,
+        marks,
+        standing,
     };
-    let shares = Shares::at(w, layout.share_place).left(taken.remote, taken.local);
+    let shares = Shares::at(w, layout.share_place).left(unlocked);
     Ok(put_state(&records, &shares, out))
 }
 

@@ -175,8 +175,8 @@ module _ (h size : ℕ) (w counts tlcs : List ℕ) (k : valid_hash_len h ≡ tru
     shares_length : length shares ≡ length w - behind_tlcs h n
     shares_length = ap length shares_are ∙ (length-drop (2 + n * size) w ∙ ap (λ (m : ℕ). length w - (2 + m)) bytes_lem)
 
-    pub read_unshared : taken shares 72 ≡ None → Err (SharesCut (2 + n * size)) ≡ read_witness h w
-    read_unshared g = rw e (shares_cut h w n room (omega (arith, none_taken shares 72 g, shares_length, room))) ∙ to_witness
+    pub read_unshared : (place : ℕ) → place ≡ 2 + n * size → taken shares 72 ≡ None → Err (SharesCut place) ≡ read_witness h w
+    read_unshared place f g = rw (f, e) (shares_cut h w n room (omega (arith, none_taken shares 72 g, shares_length, room))) ∙ to_witness
 
     module _ (both unlocks : List ℕ) (third : (taken shares 72 ≡ Some both) × (left shares 72 ≡ unlocks)) where
       shares_room : behind_tlcs h n + 72 ≤ length w

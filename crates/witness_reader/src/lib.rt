@@ -74,6 +74,7 @@ fn read_unlocks(
 {
     let mut left = unlocks;
     let mut unlock_count = 0;
+    // Where an unlock ends only itself says: an iterator over them would have this loop inside.
     while !left.is_empty() {
         let Some(next) = left.pass_unlock() else {
             return Err(Refusal::UnlockCut(w.len() - left.remaining.len()));

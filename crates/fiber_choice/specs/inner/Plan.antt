@@ -1,5 +1,5 @@
--- How the code writes what is handed out: the numbers that a choice comes to.
-use Rattle.std.specs.Prelude.{ℕ, ◌<◌, true, false, cond, List, [], ◌∷◌, ◌++◌, get_or, replicate}
+-- How the code writes what is handed out: what a choice comes to.
+use Rattle.std.specs.Prelude.{ℕ, ◌+◌, ◌*◌, ◌≤◌, ◌<◌, true, false, List, [], ◌++◌, length, get_or, replicate, Option, Some, None, is_some, IfSome}
 use Rattle.fiber_types.specs.Records.{unlock_bytes}
 use Rattle.fiber_choice.specs.declared.kinds.Side.TheVariants as SideCase
 use Rattle.fiber_choice.specs.declared.kinds.Way.TheVariants as WayCase
@@ -10,7 +10,8 @@ use Rattle.fiber_choice.specs.declared.kinds.Stage.TheVariants as StageCase
 use Rattle.fiber_choice.specs.declared.kinds.Plan.{Plan}
 use Rattle.fiber_witness.specs.Witness.{state_bytes}
 use Rattle.fiber_witness.specs.Update.{keep, share_left}
-use Rattle.fiber_choice.specs.Entries.{pair_preimage, tracked_records}
+use Rattle.fiber_witness.specs.inner.Marks.{listed}
+use Rattle.fiber_choice.specs.Entries.{pair_len, pair_preimage, tracked_records}
 use Rattle.fiber_choice.specs.HandedOut.{choice_byte, new_args}
 use Rattle.fiber_choice.specs.Promises.{PairIn}
 
@@ -23,26 +24,40 @@ Reaches (StageCase.First d) place n = place < n
 abbrev pub ReachesAll : Stage → ℕ → ℕ → Type 0
 ReachesAll stage m n = (place : ℕ) → place < m → Reaches stage place n
 
--- of n TLCs; skip is the one settled, n for none
-unfoldable pub plan_of : ℕ → Choice → Plan
-plan_of n (ChoiceCase.Share SideCase.Remote) = record { byte = choice_byte (ChoiceCase.Share SideCase.Remote); flag = false; pair_place = 0; skip = n; remote = true; local = false }
-plan_of n (ChoiceCase.Share SideCase.Local) = record { byte = choice_byte (ChoiceCase.Share SideCase.Local); flag = false; pair_place = 0; skip = n; remote = false; local = true }
-plan_of n (ChoiceCase.Tlc place WayCase.Timeout) = record { byte = choice_byte (ChoiceCase.Tlc place WayCase.Timeout); flag = false; pair_place = 0; skip = place; remote = false; local = false }
-plan_of n (ChoiceCase.Tlc place (WayCase.Preimage pair_place)) = record { byte = choice_byte (ChoiceCase.Tlc place (WayCase.Preimage pair_place)); flag = true; pair_place = pair_place; skip = place; remote = false; local = false }
+-- what a choice comes to
+unfoldable pub plan_of : Choice → Plan
+plan_of (ChoiceCase.Share SideCase.Remote) =
+    record { byte = choice_byte (ChoiceCase.Share SideCase.Remote); pair = None; settled = None; unlocked = record { remote = true; local = false } }
+plan_of (ChoiceCase.Share SideCase.Local) =
+    record { byte = choice_byte (ChoiceCase.Share SideCase.Local); pair = None; settled = None; unlocked = record { remote = false; local = true } }
+plan_of (ChoiceCase.Tlc place WayCase.Timeout) =
+    record { byte = choice_byte (ChoiceCase.Tlc place WayCase.Timeout); pair = None; settled = Some place; unlocked = record { remote = false; local = false } }
+plan_of (ChoiceCase.Tlc place (WayCase.Preimage pair_place)) =
+    record { byte = choice_byte (ChoiceCase.Tlc place (WayCase.Preimage pair_place)); pair = Some pair_place; settled = Some place; unlocked = record { remote = false; local = false } }
 
--- a choice whose place is among n TLCs, and whose pair is among m
+-- a choice whose place is among n TLCs
 unfoldable pub Below : ℕ → Choice → Type 0
 Below n (ChoiceCase.Share side) = Unit {0}
 Below n (ChoiceCase.Tlc place way) = place < n
 
+-- and whose pair is among m
 unfoldable pub Within : ℕ → ℕ → Choice → Type 0
 Within n m c = Below n c × PairIn m c
 
+-- a pair, if there is one, is whole
+abbrev pub PairWhole : List ℕ → Option ℕ → Type 0
+PairWhole preimages pair = IfSome pair (λ place. pair_len * place + pair_len ≤ length preimages)
+
+-- the preimage that goes with an unlock: that of a pair, or none
+unfoldable pub preimage_of : List (List ℕ) → Option ℕ → List ℕ
+preimage_of pairs (Some pair_place) = pair_preimage (get_or pairs pair_place [])
+preimage_of pairs None = []
+
 unfoldable pub plan_unlock : List (List ℕ) → Plan → List ℕ
-plan_unlock pairs p = unlock_bytes (record { byte = p.byte; flag = p.flag }) (replicate 65 0) (cond p.flag (pair_preimage (get_or pairs p.pair_place [])) [])
+plan_unlock pairs p = unlock_bytes (record { byte = p.byte; flag = is_some p.pair }) (replicate 65 0) (preimage_of pairs p.pair)
 
 unfoldable pub plan_after : List (List ℕ) → List ℕ → List ℕ → Plan → List ℕ
-plan_after tlcs remote local p = state_bytes (keep (p.skip ∷ []) 0 tlcs) (share_left p.remote remote) (share_left p.local local)
+plan_after tlcs remote local p = state_bytes (keep (listed p.settled) 0 tlcs) (share_left p.unlocked.remote remote) (share_left p.unlocked.local local)
 
 -- the unlock, the state before it and the new args
 unfoldable pub joined : List ℕ → List (List ℕ) → List (List ℕ) → List ℕ → List ℕ → Plan → List ℕ

@@ -1,5 +1,6 @@
 -- The takes in order: the hash length, two counts, the TLCs and the shares.
 use mathlib.Core.Path.{◌∙◌}
+use native.Mathlib.Omega.{arith}
 use Rattle.std.proofs.lemmas.Option.{MatchOption-at_none, MatchOption-at_some}
 use Rattle.std.proofs.lemmas.Result.{err_from_is_err_and}
 use Rattle.fiber_witness.proofs.WitnessLaws.{witness_unknown, witness_short}
@@ -35,7 +36,7 @@ returns-in_err-unlocks c =
     let none = c.in_err-unlocks.ensures.ok_part in
     let first = MatchOption-at_some _ _ _ c.in_ok-counts.ensures.ok_part c.take.ensures in
     rw (p.1, p.2, refused _ _ _ c.in_err-unlocks.ensures.value none, ← c.in_ok-try_from.ensures)
-    (read_unshared _ _ _ _ _ c.in_ok-try_from.field-0.valid c.record_len-size.ensures first _ _ c.in-Some.ensures
+    (read_unshared _ _ _ _ _ c.in_ok-try_from.field-0.valid c.record_len-size.ensures first _ _ c.in-Some.ensures _ (omega arith)
     (MatchOption-at_none _ _ none c.take-3.ensures))
 
 pub read_unlocks-requires : goal.read_unlocks-requires

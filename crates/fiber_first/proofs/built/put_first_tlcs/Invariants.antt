@@ -3,7 +3,7 @@ use mathlib.Core.List.{flatten}
 use Rattle.fiber_choice.specs.Entries.{entries, settlement_len}
 use Rattle.fiber_choice.specs.FirstRecords.{first_records}
 use Rattle.fiber_choice.proofs.FirstRecordsLaws.{Firsts}
-use Rattle.fiber_first.specs.Left.{left}
+use Rattle.fiber_first.specs.inner.Left.{left}
 use Rattle.fiber_first.proofs.built.put_first_tlcs.Given as goal
 
 abbrev pub invariant-loop-tlc : goal.invariant-loop-tlc

@@ -2,7 +2,7 @@
 use Rattle.fiber_choice.specs.Entries.{entries, settlement_len, tracked_len, tracked_records, same_lists}
 use Rattle.fiber_choice.specs.FirstRecords.{first_records}
 use Rattle.fiber_choice.proofs.FirstRecordsLaws.{Sames}
-use Rattle.fiber_first.specs.Left.{left}
+use Rattle.fiber_first.specs.inner.Left.{left}
 use Rattle.fiber_first.proofs.built.same_as_tracked.Given as goal
 
 abbrev pub invariant-loop-tlc : goal.invariant-loop-tlc

@@ -1,8 +1,7 @@
 -- Where there is room, the record is written.
-use mathlib.Core.Path.{sym, ap, ◌∙◌}
+use mathlib.Core.Path.{sym, ◌∙◌}
 use native.Mathlib.Omega.{arith}
-use lib.Seq.{sets}
-use Rattle.fiber_choice.proofs.FirstRecordsLaws.{first_back, tlc_whole}
+use Rattle.fiber_choice.proofs.FirstRecordsLaws.{tlc_whole}
 use Rattle.fiber_first.proofs.first.settlement_tlc_witness.Goals as goal
 
 pub returns : goal.returns
@@ -13,4 +12,4 @@ returns c =
     let n = c.if-tlc-ne-SETTLEMENT_TLC.false in
     rw (size, ← c.in_ok-h.ensures)
     (tlc_whole _ _ _ _ h.valid n (sym c.is_valid_settlement.ensures ∙ c.if-not-is_valid_settlement.false) (omega (arith, size, c.if-out-size.false)) _
-    (c.put_record.ensures ∙ ap (sets a.out.now 0) (first_back h.bytes a.for_remote a.tlc.now h.valid n _ c.first_record-record.ensures _ size)))
+    c.put_first.ensures)

@@ -3,7 +3,7 @@ use Rattle.std.proofs.Common.{rules, tests}
 use Rattle.std.proofs.lemmas.Iterator.Consumers.{YieldsList-from_first}
 use Rattle.std.proofs.lemmas.Iterator.Search.{all_from_yields_List}
 use Rattle.fiber_choice.specs.Entries.{valid_tracked}
-use Rattle.fiber_first.specs.Left.{left}
+use Rattle.fiber_first.specs.inner.Left.{left}
 use Rattle.fiber_first.proofs.lent.valid_tracked.Goals as goal
 
 pub returns : goal.returns

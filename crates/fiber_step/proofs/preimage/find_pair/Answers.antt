@@ -6,7 +6,7 @@ use Rattle.std.proofs.lemmas.Iterator.Consumers.{YieldsList-from_first}
 use Rattle.std.proofs.lemmas.Iterator.Search.{position_from_yields_List}
 use Rattle.fiber_choice.specs.Preimages.{find_pair}
 use Rattle.fiber_choice.proofs.PreimagesLaws.{has_hash}
-use Rattle.fiber_first.specs.Left.{left}
+use Rattle.fiber_first.specs.inner.Left.{left}
 use Rattle.fiber_step.proofs.preimage.find_pair.Goals as goal
 
 pub returns : goal.returns

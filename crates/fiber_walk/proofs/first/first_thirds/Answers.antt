@@ -8,7 +8,6 @@ use Rattle.std.proofs.lemmas.Result.{err_from_is_err_and}
 use Rattle.fiber_since.proofs.EpochLaws.{third_within, third_refused}
 use Rattle.fiber_choice.specs.Request.{tracked_tlcs}
 use Rattle.fiber_choice.specs.inner.Request.{request_by}
-use Rattle.fiber_choice.proofs.WalkLaws.{reaches_first}
 use Rattle.fiber_choice.proofs.SettlementsLaws.{within_below, thirds_nothing, thirds_within, thirds_chosen}
 use Rattle.fiber_walk.proofs.first.first_thirds.Goals as goal
 
@@ -23,9 +22,6 @@ invariant_of-dues_by-2 c = record { bounded = third_within _ 1 (omega arith) c.a
 
 pub invariant_of-dues_by-3 : goal.invariant_of-dues_by-3
 invariant_of-dues_by-3 c = record { bounded = third_within _ 2 (omega arith) c.args.full.bounded _ _ c.mul-2.ensures c.in_ok-two_thirds.was }
-
-pub walked-requires-clause-reaches_all : goal.walked-requires-clause-reaches_all
-walked-requires-clause-reaches_all c = reaches_first _ _ _ c.requires.as_many
 
 pub returns-in_err-chosen : goal.returns-in_err-chosen
 returns-in_err-chosen c =
@@ -45,4 +41,4 @@ write_output-requires c =
 pub returns : goal.returns
 returns c =
     thirds_chosen _ _ _ _ _ _ _ c.mul.ensures c.in_ok-third.was c.mul-2.ensures c.in_ok-two_thirds.was _ c.dues_by-dues.ensures _ c.walked.ensures _ _ c.in_ok-chosen.was _ _ _ _
-    c.first_shares.ensures.remote c.first_shares.ensures.local c.delay_for-delay.ensures c.first_place-place.ensures _ _ c.write_output.ensures
+    c.first_shares-built.ensures.remote c.first_shares-built.ensures.local c.delay_for-delay.ensures c.first_place-place.ensures _ _ c.write_output.ensures

@@ -1,11 +1,10 @@
 -- To compare the rests, from here, gives what comparing all gives; each record that stands takes the next tracked one.
-use Prim.Native.Nat.{ℕ, ◌≤◌, ◌<◌}
-use mathlib.Core.Path.{◌≡◌, sym, ◌∙◌}
+use Prim.Native.Nat.{ℕ, ◌≤◌}
+use mathlib.Core.Path.{◌≡◌, refl, sym}
 use native.Mathlib.Omega.{arith}
 use mathlib.Core.Bool.{Bool, true, false, false≢true, not}
 use mathlib.Core.List.{List, [], ◌∷◌}
-use lib.ListN.{length-take}
-use lib.Seq.{get_or-take}
+use lib.ListN.{length}
 use Rattle.std.specs.Prelude.{Option, Some, None, is_some, MatchOption}
 use Rattle.std.specs.Borrow.{Bor}
 use Rattle.fiber_choice.proofs.SettlementsLaws.{record_differs, comparing_start, comparing_end, comparing_over, comparing_from, comparing_gone, comparing_short, comparing_differ, comparing_same, comparing_whole}
@@ -25,58 +24,41 @@ loop-settled-init c = comparing_start _ _ _ _ _ _ c.tracked_tlcs-others.ensures
 
 pub returns-in_default : goal.returns-in_default
 returns-in_default c =
-    let m = c.args.marks.now in
-    let below : c.loop-settled.settled-index < m.n = omega (arith, length-take m.n m.settled, c.loop-settled-test.true) in
-    comparing_short _ _ _ _ _ _ _ _ _ c.loop-settled.invariant below (sym (get_or-take m.n m.settled c.loop-settled.settled-index false below) ∙ c.if-not-settled.true) c.in_default.ensures.steps.0
+    comparing_short _ _ _ _ _ _ _ _ _ c.loop-settled.invariant refl c.loop-settled-test.true c.if-not-settled.true c.in_default.ensures.steps.0
 
 pub overflow_add-from : goal.overflow_add-from
 overflow_add-from c =
-    let m = c.args.marks.now in
-    let below : c.loop-settled.settled-index < m.n = omega (arith, length-take m.n m.settled, c.loop-settled-test.true) in
-    omega (arith, comparing_from _ _ _ _ _ _ _ _ _ c.loop-settled.invariant below c.requires, c.record_len-size.ensures)
+    omega (arith, comparing_from _ _ _ _ _ _ _ _ _ c.loop-settled.invariant refl c.loop-settled-test.true c.args.taken.now.tlcs_whole, c.record_len-size.ensures)
 
 pub slice_bounds-ne-end : goal.slice_bounds-ne-end
 slice_bounds-ne-end c =
-    let m = c.args.marks.now in
-    let below : c.loop-settled.settled-index < m.n = omega (arith, length-take m.n m.settled, c.loop-settled-test.true) in
-    omega (arith, comparing_from _ _ _ _ _ _ _ _ _ c.loop-settled.invariant below c.requires, c.record_len-size.ensures)
+    omega (arith, comparing_from _ _ _ _ _ _ _ _ _ c.loop-settled.invariant refl c.loop-settled-test.true c.args.taken.now.tlcs_whole, c.record_len-size.ensures)
 
 pub slice_bounds-ne-count-then-not-settled : goal.slice_bounds-ne-count-then-not-settled
 slice_bounds-ne-count-then-not-settled c =
-    let m = c.args.marks.now in
-    let below : c.loop-settled.settled-index < m.n = omega (arith, length-take m.n m.settled, c.loop-settled-test.true) in
-    omega (arith, comparing_whole _ _ _ _ _ _ _ _ _ c.loop-settled.invariant below (sym (get_or-take m.n m.settled c.loop-settled.settled-index false below) ∙ c.if-not-settled.true) _ _ c.in-Some.ensures.steps)
+    omega (arith, comparing_whole _ _ _ _ _ _ _ _ _ c.loop-settled.invariant refl c.loop-settled-test.true c.if-not-settled.true _ _ c.in-Some.ensures.steps)
 
 pub slice_bounds-ne-start-then-not-settled : goal.slice_bounds-ne-start-then-not-settled
 slice_bounds-ne-start-then-not-settled c =
-    let m = c.args.marks.now in
-    let below : c.loop-settled.settled-index < m.n = omega (arith, length-take m.n m.settled, c.loop-settled-test.true) in
-    omega (arith, comparing_whole _ _ _ _ _ _ _ _ _ c.loop-settled.invariant below (sym (get_or-take m.n m.settled c.loop-settled.settled-index false below) ∙ c.if-not-settled.true) _ _ c.in-Some.ensures.steps)
+    omega (arith, comparing_whole _ _ _ _ _ _ _ _ _ c.loop-settled.invariant refl c.loop-settled-test.true c.if-not-settled.true _ _ c.in-Some.ensures.steps)
 
 pub returns-then-ne : goal.returns-then-ne
 returns-then-ne c =
-    let m = c.args.marks.now in
-    let below : c.loop-settled.settled-index < m.n = omega (arith, length-take m.n m.settled, c.loop-settled-test.true) in
-    comparing_differ _ _ _ _ _ _ _ _ _ c.loop-settled.invariant below (sym (get_or-take m.n m.settled c.loop-settled.settled-index false below) ∙ c.if-not-settled.true) _ _ c.in-Some.ensures.steps (record_differs _ c.in-Some.other.now _ _ c.args.h.bytes true c.record_len-size.ensures c.if-ne.ensures)
+    comparing_differ _ _ _ _ _ _ _ _ _ c.loop-settled.invariant refl c.loop-settled-test.true c.if-not-settled.true _ _ c.in-Some.ensures.steps (record_differs _ c.in-Some.other.now _ _ c.args.taken.now.q.now.h.bytes true c.record_len-size.ensures c.if-ne.ensures)
 
 pub overflow_add-from-in-loop-settled : goal.overflow_add-from-in-loop-settled
 overflow_add-from-in-loop-settled c =
-    let m = c.args.marks.now in
-    let below : c.loop-settled.settled-index < m.n = omega (arith, length-take m.n m.settled, c.loop-settled-test.true) in
-    omega (arith, comparing_from _ _ _ _ _ _ _ _ _ c.loop-settled.invariant below c.requires, c.record_len-size.ensures)
+    omega (arith, comparing_from _ _ _ _ _ _ _ _ _ c.loop-settled.invariant refl c.loop-settled-test.true c.args.taken.now.tlcs_whole, c.record_len-size.ensures)
 
 pub loop-settled-preserved : goal.loop-settled-preserved
 loop-settled-preserved c =
-    let m = c.args.marks.now in
-    let below : c.loop-settled.settled-index < m.n = omega (arith, length-take m.n m.settled, c.loop-settled-test.true) in
     rw c.record_len-size.ensures
     (elim c.if-not-settled.branch [
-      | then-not-settled+in-Some+else-ne w ↦ rw w.others-is (comparing_same _ _ _ _ _ _ _ _ _ c.loop-settled.invariant below (sym (get_or-take m.n m.settled c.loop-settled.settled-index false below) ∙ w.if-not-settled.true) _ _ w.in-Some.ensures.steps (record_differs _ w.in-Some.other.now _ _ c.args.h.bytes false c.record_len-size.ensures w.if-ne.ensures))
-      | else-not-settled w ↦ rw w.others-is (comparing_gone _ _ _ _ _ _ _ _ _ c.loop-settled.invariant below (sym (get_or-take m.n m.settled c.loop-settled.settled-index false below) ∙ w.if-not-settled.false))
+      | then-not-settled+in-Some+else-ne w ↦ rw w.others-is (comparing_same _ _ _ _ _ _ _ _ _ c.loop-settled.invariant refl c.loop-settled-test.true w.if-not-settled.true _ _ w.in-Some.ensures.steps (record_differs _ w.in-Some.other.now _ _ c.args.taken.now.q.now.h.bytes false c.record_len-size.ensures w.if-ne.ensures))
+      | else-not-settled w ↦ rw w.others-is (comparing_gone _ _ _ _ _ _ _ _ _ c.loop-settled.invariant refl c.loop-settled-test.true w.if-not-settled.false)
     ])
 
 pub returns : goal.returns
 returns c =
-    let m = c.args.marks.now in
-    let end : m.n ≤ c.loop-settled.settled-index = omega (arith, length-take m.n m.settled, c.loop-settled-test.false, m.few, m.settled_256) in
+    let end : length c.args.taken.now.marks.now ≤ c.loop-settled.settled-index = omega arith in
     ended _ _ _ _ _ c.next-2.ensures.steps c.is_none.ensures (comparing_end _ _ _ _ _ _ _ _ _ c.loop-settled.invariant end) (comparing_over _ _ _ _ _ _ _ _ _ c.loop-settled.invariant end)

@@ -6,7 +6,7 @@ use Rattle.fiber_witness.proofs.UpdateLaws.{Taking}
 use Rattle.fiber_witness.proofs.unlocks.take_unlocks.Given as goal
 
 abbrev pub invariant-loop-at : goal.invariant-loop-at
-invariant-loop-at l = Taking l.n l.w l.first_unlock l.settled l.remote l.local l.at
+invariant-loop-at l = Taking (length l.initial.settled) l.w l.first_unlock l.settled l.remote l.local l.at
 
 abbrev pub decreases-loop-at : goal.decreases-loop-at
 decreases-loop-at l = length l.w - l.at

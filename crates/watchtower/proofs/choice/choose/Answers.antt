@@ -1,6 +1,6 @@
 -- Row 14, then the delay, then the settlement.
 -- What is lent well, with a delay that is an epoch, has what each of the two settlements asks.
-use mathlib.Core.Path.{◌≡◌, sym, ap, ◌∙◌}
+use mathlib.Core.Path.{◌≡◌, sym, ◌∙◌}
 use mathlib.Core.Bool.{false}
 use Rattle.std.proofs.lemmas.Result.{err_from_is_err_and}
 use Rattle.fiber_types.specs.HashLen.{valid_hash_len}
