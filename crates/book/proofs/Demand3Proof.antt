@@ -11,7 +11,7 @@ use lib.ListN.{length, get_or, drop, length-map, drop_of_length-le}
 use lib.Seq.{drop-cons}
 use lib.Dec.{eqb}
 use borrow.Author.Tests.{eq-eqb, ne_eqb}
-use Rattle.fiber_bytes.proofs.BytesLaws.{either}
+use Rattle.std.proofs.lemmas.Bool.{cases_lt}
 use Rattle.fiber_types.specs.HashLen.{valid_hash_len}
 use Rattle.fiber_witness.specs.Witness.{member}
 use Rattle.fiber_witness.specs.Update.{Taken, none}
@@ -176,7 +176,7 @@ unfolding places_from
 places_below i zero k f g = absurd (omega arith)
 places_below i (suc n) k f g =
     rw member_more
-    (⊎_elim (λ h. rw (places_below (suc i) n k h (omega arith), or-true (eqb k i))) (λ h. rw (eq-eqb k i (omega arith))) (either (suc i) k))
+    (⊎_elim (λ h. rw (places_below (suc i) n k h (omega arith), or-true (eqb k i))) (λ h. rw (eq-eqb k i (omega arith))) (cases_lt i k))
 
 places_beyond : (i n k : ℕ) → i + n ≤ k → member k (places_from i n) ≡ false
 unfolding places_from

@@ -3,11 +3,11 @@
 use Prim.Native.Nat.{ℕ, ◌≤◌, ◌<◌}
 use native.Mathlib.Omega.{arith}
 use mathlib.Core.Path.{◌≡◌, refl, sym}
-use mathlib.Core.List.{List, [], ◌++◌}
+use mathlib.Core.List.{List, [], ◌∷◌, ◌++◌, append-nil, flat_map}
 use lib.ListN.{length, length-append}
 use lib.Seq.{sets}
 use borrow.Author.Tests.{lt-ltb, le-ltb}
-use Rattle.fiber_bytes.specs.Bytes.{le_bytes}
+use Rattle.fiber_bytes.specs.Bytes.{le_bytes, numbers}
 use Rattle.fiber_bytes.proofs.BytesLaws.{le_bytes_length, sets_then}
 use Rattle.c_answer.specs.Answers.{Answer, row, fields, answered, call, Leaves}
 
@@ -16,15 +16,14 @@ use Rattle.c_answer.specs.Answers.{Answer, row, fields, answered, call, Leaves}
 pub pair_length : (a b : ℕ) → length (le_bytes 8 a ++ le_bytes 8 b) ≡ 16
 pair_length a b = omega (arith, length-append (le_bytes 8 a) (le_bytes 8 b), le_bytes_length 8 a, le_bytes_length 8 b)
 
-module _ (o : List ℕ) where
-  pub front_by : (o₁ o₂ : List ℕ) (number place : ℕ) → o₁ ≡ sets o 0 (le_bytes 8 number) → o₂ ≡ sets o₁ 8 (le_bytes 8 place)
-      → o₂ ≡ sets o 0 (le_bytes 8 number ++ le_bytes 8 place)
-  front_by o₁ o₂ number place e f = sets_then o (le_bytes 8 number) (le_bytes 8 place) 8 e f (sym (le_bytes_length 8 number))
+pub front_is : (number place : ℕ) → numbers (number ∷ place ∷ []) ≡ le_bytes 8 number ++ le_bytes 8 place
+unfolding flat_map
+front_is number place = rw append-nil
 
-  -- fields right behind the front
-  pub behind : (bytes : List ℕ) {o₁ o₂ : List ℕ} → o₁ ≡ sets o 0 (le_bytes 8 0 ++ le_bytes 8 0) → o₂ ≡ sets o₁ 16 bytes
-      → o₂ ≡ sets o 0 ((le_bytes 8 0 ++ le_bytes 8 0) ++ bytes)
-  behind bytes e f = sets_then o (le_bytes 8 0 ++ le_bytes 8 0) bytes 16 e f (sym (pair_length 0 0))
+-- fields right behind the front
+pub behind : (o bytes : List ℕ) {o₁ o₂ : List ℕ} → o₁ ≡ sets o 0 (le_bytes 8 0 ++ le_bytes 8 0) → o₂ ≡ sets o₁ 16 bytes
+    → o₂ ≡ sets o 0 ((le_bytes 8 0 ++ le_bytes 8 0) ++ bytes)
+behind o bytes e f = sets_then o (le_bytes 8 0 ++ le_bytes 8 0) bytes 16 e f (sym (pair_length 0 0))
 
 -- ---- an answer given
 

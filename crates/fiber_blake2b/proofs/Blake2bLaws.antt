@@ -1,19 +1,18 @@
 -- What the proofs of `blake2b` cite: straight-line code by what each call left, and a turn of each loop.
 -- Assumes nothing.
 use Rattle.std.proofs.Common.{◌≡◌, ℕ, zero, suc, ◌+◌, ◌-◌, ◌*◌, ◌/◌, ◌%◌, ◌^◌, ◌<◌, ◌≤◌, List, [], ◌∷◌, ◌++◌, length, get_or, take, set, sym, refl, ap, ◌∙◌, ap₂, add-one, arith, length-set, length-take, take_all}
-use mathlib.Core.List.{flat_map}
 use mathlib.Core.Bool.{Bool}
 use lib.Dec.{ltb}
 use Rattle.std.specs.List.{All, AllPass, list_all}
 use Rattle.std.proofs.lemmas.Bool.{ltb-true}
 use Rattle.std.proofs.lemmas.List.Sums.{AllPass-from_list_all}
-use lib.Seq.{take-suc, take-nil, take-append-add}
+use lib.Seq.{sets, take-suc}
 use lib.Bits.{bit_xor}
 use Rattle.fiber_bytes.specs.Bytes.{part, le, le_bytes, numbers}
 use Rattle.fiber_bytes.specs.Words.{rotated}
 use Rattle.fiber_blake2b.specs.Blake2b.{iv, sigma, added, turned, half, mixed, columns, diagonals, picked, round, rounds, start, folded, words, compressed, absorbed, hashed, params, initial, chain, blake2b, ckb_personal, ckb_hash}
 use Rattle.fiber_bytes.proofs.ArraysLaws.{written}
-use Rattle.fiber_bytes.proofs.BytesLaws.{le_bytes_length, each_length}
+use Rattle.fiber_bytes.proofs.BytesLaws.{le_bytes_length, each_length, sets_fill}
 
 -- G
 pub added_by : (v : List ℕ) (a b x p q : ℕ) → p ≡ (get_or v a 0 + get_or v b 0) % 2 ^ 64 → q ≡ (p + x) % 2 ^ 64 → set v a q ≡ added v a b x
@@ -112,15 +111,6 @@ pub initial_by : (p : List ℕ) (d e x y : ℕ) → e ≡ d → x ≡ le (part p
 unfolding initial params iv le
 initial_by p d e x y g h i = rw (g, h, i)
 
--- the words as bytes
-bytes_front : (h : List ℕ) (n : ℕ) → take (8 * n) (numbers h) ≡ numbers (take n h)
-unfolding flat_map
-bytes_front h zero = refl
-bytes_front [] (suc n) = take-nil (8 * suc n)
-bytes_front (x ∷ xs) (suc n) =
-    let e : 8 * suc n ≡ length (le_bytes 8 x) + 8 * n = omega (arith, le_bytes_length 8 x) in
-    rw e (take-append-add (le_bytes 8 x) (numbers xs) (8 * n) ∙ ap (λ (l : List ℕ). le_bytes 8 x ++ l) (bytes_front xs n))
-
 -- every step keeps eight words
 folded_length : (n : ℕ) (h v : List ℕ) → length (folded n h v) ≡ length h
 unfolding folded
@@ -144,25 +134,24 @@ initial_length : (p : List ℕ) → length (initial 8 p) ≡ 8
 unfolding initial
 initial_length p = refl
 
-hashed_from : (p s h₀ h : List ℕ) → h₀ ≡ initial 8 p → h ≡ hashed h₀ s → h ≡ hashed (initial 8 p) s
-hashed_from p s h₀ h e f = f ∙ ap (λ (l : List ℕ). hashed l s) e
-
-eight : (p s : List ℕ) → length (hashed (initial 8 p) s) ≡ 8
-eight p s = hashed_length (initial 8 p) s ∙ initial_length p
+chain_length : (p s : List ℕ) → length (chain p s) ≡ 64
+unfolding chain
+chain_length p s =
+    let h = hashed (initial 8 p) s in
+    omega (arith, each_length (le_bytes 8) 8 (le_bytes_length 8) h, hashed_length (initial 8 p) s, initial_length p)
 
 -- a CKB hash has 32 bytes
 pub ckb_length : (s : List ℕ) → length (ckb_hash s) ≡ 32
-unfolding ckb_hash blake2b chain params
-ckb_length s =
-    let h = hashed (initial 8 (params 32 ckb_personal)) s in
-    length-take 32 (numbers h) ∙ omega (arith, each_length (le_bytes 8) 8 (le_bytes_length 8) h, eight (params 32 ckb_personal) s)
+unfolding ckb_hash blake2b params
+ckb_length s = length-take 32 (chain (params 32 ckb_personal) s) ∙ omega (arith, chain_length (params 32 ckb_personal) s)
 
-pub chain_by : (p s h₀ h r : List ℕ) → h₀ ≡ initial 8 p → h ≡ hashed h₀ s → r ≡ numbers h → r ≡ chain p s
+-- the words' bytes, as many as an output has room for
+pub digest_by : (p s h₀ h o r : List ℕ) → h₀ ≡ initial 8 p → h ≡ hashed h₀ s → length o ≤ 64 → r ≡ sets o 0 (numbers h) → r ≡ take (length o) (chain p s)
 unfolding chain
-chain_by p s h₀ h r e f g = g ∙ ap numbers (hashed_from p s h₀ h e f)
+digest_by p s h₀ h o r e f l g =
+    let d : numbers h ≡ chain p s = ap numbers (f ∙ ap (λ (l : List ℕ). hashed l s) e) in
+    g ∙ ap (sets o 0) d ∙ sets_fill o (chain p s) (omega (arith, chain_length p s))
 
-pub ckb_by : (p s h₀ h r : List ℕ) → p ≡ ckb_personal → h₀ ≡ initial 8 (params 32 p) → h ≡ hashed h₀ s → r ≡ numbers (take 4 h) → r ≡ ckb_hash s
-unfolding ckb_hash blake2b chain params
-ckb_by p s h₀ h r e f g k =
-    let d = hashed_from (params 32 ckb_personal) s h₀ h (f ∙ ap (λ (l : List ℕ). initial 8 (params 32 l)) e) g in
-    k ∙ sym (bytes_front h 4) ∙ ap (λ (l : List ℕ). take 32 (numbers l)) d
+-- all of them
+pub chain_all : (p s : List ℕ) → take 64 (chain p s) ≡ chain p s
+chain_all p s = take_all 64 (chain p s) (omega (arith, chain_length p s))

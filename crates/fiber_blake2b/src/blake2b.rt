@@ -1,10 +1,9 @@
 // BLAKE2b (RFC 7693) without a key, and CKB's hash.
-ghost use Rattle.std.specs.Prelude.{◌≡◌, ◌+◌, ◌-◌, ◌*◌, ◌/◌, ◌%◌, ◌^◌, ◌<◌, ◌≤◌, [], length, take, slice_index_or};
+ghost use Rattle.std.specs.Prelude.{◌≡◌, ◌+◌, ◌-◌, ◌*◌, ◌/◌, ◌%◌, ◌^◌, ◌<◌, ◌≤◌, [], take, slice_index_or};
 ghost use Rattle.std.specs.List.{All};
-ghost use Rattle.fiber_bytes.specs.Bytes.{numbers};
 ghost use Rattle.fiber_blake2b.specs.Blake2b as S;
 
-use fiber_bytes::{le64, put_le64};
+use fiber_bytes::{le64, put_numbers};
 use std::array;
 
 const CKB_PERSONAL: [u8; 16] = *b"ckb-default-hash";
@@ -35,6 +34,8 @@ const SIGMA: [[usize; 16]; 10] = [
     [10, 2, 8, 4, 7, 6, 1, 5, 15, 11, 9, 14, 3, 12, 13, 0],
 ];
 
+// 3.1: the two steps of G, on words of v by their places. The sums are modulo 2^64, which a bare `+` would not be.
+#[tactic(auto, using(crate::proofs::Blake2bLaws::added_by))]
 fn add(v: &mut [u64; 16], a: usize, b: usize, x: u64)
     requires { (a < 16) × (b < 16) }
     ensures { v.new ≡ S.added v.old a b x }
@@ -50,6 +51,7 @@ fn turn(v: &mut [u64; 16], d: usize, a: usize, k: u32)
 }
 
 // A half of G. These two have the parameters that RFC 7693 gives G, and the rotations.
+#[tactic(auto, using(crate::proofs::Blake2bLaws::half_by))]
 fn half_mix(v: &mut [u64; 16], a: usize, b: usize, c: usize, d: usize, x: u64, j: u32, k: u32)
     requires { (a < 16) × (b < 16) × (c < 16) × (d < 16) × (0 < j) × (j < 64) × (0 < k) × (k < 64) }
     ensures { v.new ≡ S.half v.old a b c d x j k }
@@ -61,6 +63,7 @@ fn half_mix(v: &mut [u64; 16], a: usize, b: usize, c: usize, d: usize, x: u64, j
 }
 
 // 3.1: G.
+#[tactic(auto, using(crate::proofs::Blake2bLaws::mixed_by))]
 fn mix(v: &mut [u64; 16], a: usize, b: usize, c: usize, d: usize, x: u64, y: u64)
     requires { (a < 16) × (b < 16) × (c < 16) × (d < 16) }
     ensures { v.new ≡ S.mixed v.old a b c d x y }
@@ -81,6 +84,7 @@ fn row(r: usize) -> [usize; 16]
 
 // 3.2: round R: the columns, then the diagonals. R is a parameter of the type, so that the compiler has a round of its own for each
 // row, with the row's numbers in the code.
+#[tactic(auto, using(crate::proofs::Blake2bLaws::round_by))]
 fn round<const R: usize>(v: &mut [u64; 16], m: &[u64; 16])
     ensures { v.new ≡ S.round v.old m.now (slice_index_or S.sigma (R % 10) []) }
 {
@@ -96,6 +100,7 @@ fn round<const R: usize>(v: &mut [u64; 16], m: &[u64; 16])
 }
 
 // 3.2: the twelve rounds, the last two with the first two rows again.
+#[tactic(auto, using(crate::proofs::Blake2bLaws::rounds_by))]
 fn run(v: &mut [u64; 16], m: &[u64; 16])
     ensures { v.new ≡ S.rounds 12 v.old m.now }
 {
@@ -121,6 +126,7 @@ fn load(s: &[u8], at: usize) -> [u64; 16]
     array::from_fn(|i| le64(s, at + 8 * i))
 }
 
+#[tactic(auto, using(crate::proofs::Blake2bLaws::start_by))]
 fn begin(h: &[u64; 8], t: u64, f: u64) -> [u64; 16]
     ensures { result ≡ S.start h.now t f }
 {
@@ -151,6 +157,7 @@ fn fold(h: &mut [u64; 8], v: &[u64; 16])
 }
 
 // 3.2: F on the block of s at a place: t bytes so far, f all ones at the last block and else 0.
+#[tactic(auto, using(crate::proofs::Blake2bLaws::compressed_by))]
 fn compress(h: &mut [u64; 8], s: &[u8], at: usize, t: u64, f: u64)
     requires { at + 128 < 2 ^ 64 }
     ensures { h.new ≡ S.compressed h.old (S.words 16 s.now at) t f }
@@ -162,6 +169,7 @@ fn compress(h: &mut [u64; 8], s: &[u8], at: usize, t: u64, f: u64)
 }
 
 // 3.3: the initialization vector with the parameter block's words, of which 0, 6 and 7 are not 0.
+#[tactic(auto, using(crate::proofs::Blake2bLaws::initial_by))]
 fn initial(digest_length: u8, personal: &[u8; 16]) -> [u64; 8]
     ensures { result ≡ S.initial 8 (S.params digest_length personal.now) }
 {
@@ -188,34 +196,31 @@ fn absorb(h: &mut [u64; 8], s: &[u8])
     compress(h, s, n * 128, s.len() as u64, 0xffff_ffff_ffff_ffff);
 }
 
-// Words as bytes.
-fn finish(h: &[u64], out: &mut [u8])
-    requires { length out.old ≡ 8 * length h.now }
-    ensures { out.new ≡ numbers h.now }
-{
-    for (i, word) in h.iter().enumerate() {
-        put_le64(out, 8 * i, *word);
-    }
-}
-
-// The 64 bytes of h[] at the end. The digest is the first digest_length of them.
-pub fn blake2b(digest_length: u8, personal: &[u8; 16], s: &[u8]) -> [u8; 64]
-    ensures { result ≡ S.chain (S.params digest_length personal.now) s.now }
+// The first N of the 64 bytes of h[] at the end.
+#[tactic(auto, using(crate::proofs::Blake2bLaws::digest_by))]
+fn digest<const N: usize>(digest_length: u8, personal: &[u8; 16], s: &[u8]) -> [u8; N]
+    requires { N ≤ 64 }
+    ensures { result ≡ take N (S.chain (S.params digest_length personal.now) s.now) }
 {
     let mut h = initial(digest_length, personal);
     absorb(&mut h, s);
-    let mut out = [0u8; 64];
-    finish(&h, &mut out);
+    let mut out = [0u8; N];
+    put_numbers(&mut out, 0, &h);
     out
 }
 
+// The 64 bytes. The digest is the first digest_length of them.
+#[tactic(auto, using(crate::proofs::Blake2bLaws::chain_all))]
+pub fn blake2b(digest_length: u8, personal: &[u8; 16], s: &[u8]) -> [u8; 64]
+    ensures { result ≡ S.chain (S.params digest_length personal.now) s.now }
+{
+    digest(digest_length, personal, s)
+}
+
 // CKB's hash.
+#[tactic(auto, unfolding(crate::specs::Blake2b::ckb_hash, crate::specs::Blake2b::blake2b, crate::specs::Blake2b::params, crate::specs::Blake2b::ckb_personal))]
 pub fn ckb_hash(s: &[u8]) -> [u8; 32]
     ensures { result ≡ S.ckb_hash s.now }
 {
-    let mut h = initial(32, &CKB_PERSONAL);
-    absorb(&mut h, s);
-    let mut out = [0u8; 32];
-    finish(&h[..4], &mut out);
-    out
+    digest(32, &CKB_PERSONAL, s)
 }

@@ -2,31 +2,22 @@
 -- Assumes nothing.
 use mathlib.Core.Path.{◌≡◌, refl, sym, ap, ◌∙◌}
 use mathlib.Core.List.{List, [], ◌∷◌, ◌++◌, append-nil, append_assoc, flat_map}
-use mathlib.Core.Bool.{Bool, true, false}
-use mathlib.Core.Logic.{◌⊎◌, inl, inr, ⊎_elim}
+use mathlib.Core.Logic.{⊎_elim}
 use Prim.Native.Nat.{ℕ, zero, suc, min, ◌+◌, ◌-◌, ◌*◌, ◌/◌, ◌%◌, ◌^◌, ◌≤◌, ◌<◌}
 use native.Mathlib.Nat.{add-zero, add-suc, suc-add, zero-add, mul_assoc, mul_comm, mul-zero, mul-suc, pow-zero, pow-suc, div-div-eq-div-mul, pow-le-pow_right}
 use native.Mathlib.Numerals.{add-one}
 use native.Mathlib.Omega.{arith}
-use lib.Dec.{leb}
-use borrow.Author.Tests.{leb-true, leb-false}
 use lib.ListN.{length, get_or, set, take, drop, replicate, drop_of_length-le, length-append, length-take, length-drop, take-append-drop}
-use lib.Seq.{sets, length-sets, sets-eq, length-take-le, drop-cons, drop-drop, take-add, take-take, take_all, take_at, set_out}
+use lib.Seq.{sets, length-sets, sets-eq, length-take-le, drop-cons, drop-drop, take-add, take-take, take_all, set_out}
 use lib.Bits.{bit_or}
 use Rattle.std.specs.List.{fold}
 use Rattle.std.specs.Int.{w64, from_le_bytes, to_le_bytes}
 use Rattle.std.proofs.Common.{reverse}
+use Rattle.std.proofs.lemmas.Bool.{cases_lt}
 use Rattle.std.proofs.lemmas.Nat.{or_shifted}
 use Rattle.std.proofs.lemmas.List.{reverse-append}
 use Rattle.std.proofs.lemmas.List.Sums.{fold-append}
 use Rattle.fiber_bytes.specs.Bytes.{part, le, le_bytes, numbers}
-
-pub either : (a b : ℕ) → (a ≤ b) ⊎ (b < a)
-either a b = go (leb a b) refl
-  where
-    go : (t : Bool) → leb a b ≡ t → (a ≤ b) ⊎ (b < a)
-    go true e = inl (leb-true a b e)
-    go false e = inr (leb-false a b e)
 
 -- ---- parts
 
@@ -150,6 +141,13 @@ pub sets_out : (vs l : List ℕ) (i : ℕ) → length l ≤ i → sets l i vs �
 sets_out [] l i h = refl
 sets_out (v ∷ vs) l i h = rw (set_out l i v h) (sets_out vs l (suc i) (omega arith))
 
+-- a place that stops at the end or behind it has no room either way
+pub sets_capped : (vs l : List ℕ) (i m : ℕ) → length l ≤ m → sets l (min i m) vs ≡ sets l i vs
+sets_capped vs l i m h = ⊎_elim
+    (λ (g : m < i). sets_out vs l (min i m) (omega arith) ∙ sym (sets_out vs l i (omega arith)))
+    (λ (g : i ≤ m). let e : min i m ≡ i = omega arith in ap (λ (k : ℕ). sets l k vs) e)
+    (cases_lt m i)
+
 -- a list that is filled from the front with as many as it has, or more
 pub sets_fill : (l vs : List ℕ) → length l ≤ length vs → sets l 0 vs ≡ take (length l) vs
 sets_fill l vs h =
@@ -172,7 +170,7 @@ unfolding le_bytes
 le_bytes_eight x y e f = e ∙ ap (to_le_bytes w64) f ∙ simp div-div-eq-div-mul
 
 put_end : (l src : List ℕ) (at i : ℕ) → i ≡ min (length src) (length l - at) → l ≡ sets l (at + i) (drop i src)
-put_end l src at i e = ⊎_elim whole (λ h. sym (sets_out (drop i src) l (at + i) (omega arith))) (either (length src) (length l - at))
+put_end l src at i e = ⊎_elim (λ h. sym (sets_out (drop i src) l (at + i) (omega arith))) whole (cases_lt (length l - at) (length src))
   where
     whole : length src ≤ length l - at → l ≡ sets l (at + i) (drop i src)
     whole h =
@@ -187,7 +185,7 @@ stored_all l vs at {ys} {k} d e h =
 -- as many of src as have room
 pub stored : (l src : List ℕ) (at : ℕ) {ys : List ℕ} {a n k : ℕ} → ys ≡ take n src → a ≡ min at (length l) → n ≡ min (length src) (length l - a) → k ≡ n
     → take a l ++ (ys ++ drop k (drop a l)) ≡ sets l at src
-stored l src at {ys} {a} {n} {k} d e f g = ⊎_elim past within (either (length l) at)
+stored l src at {ys} {a} {n} {k} d e f g = ⊎_elim within past (cases_lt at (length l))
   where
     past : length l ≤ at → take a l ++ (ys ++ drop k (drop a l)) ≡ sets l at src
     past h =
@@ -221,29 +219,24 @@ module _ (f : ℕ → List ℕ) (k : ℕ) (sized : (x : ℕ) → length (f x) �
   each_length [] = sym (mul-zero k)
   each_length (x ∷ l) = length-append (f x) (flat_map f l) ∙ rw (sized, each_length l, mul-suc) (omega arith)
 
-  one_more : (l : List ℕ) (i : ℕ) → i < length l → flat_map f (take (suc i) l) ≡ flat_map f (take i l) ++ f (get_or l i 0)
+  -- a turn: one is written at the place that those that are left come to, and what is left to write gives what it gave
+  pub left_more : (l ns : List ℕ) (i place next : ℕ) → i < length ns → next ≡ place + k
+      → sets (sets l place (f (get_or ns i 0))) next (flat_map f (drop (i + 1) ns)) ≡ sets l place (flat_map f (drop i ns))
   unfolding flat_map
-  one_more [] i h = absurd (omega arith)
-  one_more (x ∷ l) zero h = append-nil (f x)
-  one_more (x ∷ l) (suc i) h = ap (λ (r : List ℕ). f x ++ r) (one_more l i (omega arith)) ∙ sym (append_assoc (f x) (flat_map f (take i l)) (f (get_or l i 0)))
-
-  -- a turn: one more is written behind the first i
-  pub each_more : (l out w : List ℕ) (i at next : ℕ) → next ≡ at + k → i < length l → next ≤ length out → take at out ≡ flat_map f (take i l) → w ≡ sets out at (f (get_or l i 0))
-      → (length w ≡ length out) × (take next w ≡ flat_map f (take (i + 1) l))
-  each_more l out w i at next n h room e g =
-      let b = f (get_or l i 0) in
-      let m : at + length b ≡ next = omega (arith, sized (get_or l i 0)) in
-      let c : length (take at out ++ b) ≡ next = simp (length-append, length-take) (omega (arith, sized (get_or l i 0))) in (
-        ap length g ∙ length-sets out at b,
-        ap (take next) (g ∙ sets-eq b out at (omega arith))
-            ∙ take_at (take at out ++ b) (drop (at + length b) out) next c
-            ∙ ap (λ (a : List ℕ). a ++ b) e
-            ∙ rw add-one (sym (one_more l i h)),
-      )
+  left_more l ns i place next h n =
+      let e : next ≡ place + length (f (get_or ns i 0)) = omega (arith, sized (get_or ns i 0)) in
+      rw (drop-cons ns i 0 h, e, add-one) (sym (sets_append (f (get_or ns i 0)) (flat_map f (drop (suc i) ns)) l place))
 
   -- the last turn is done
-  pub each_end : (l out : List ℕ) (n i at : ℕ) → i ≡ n → length out ≤ at → take at out ≡ flat_map f (take i l) → out ≡ flat_map f (take n l)
-  each_end l out n i at e h g = sym (take_all at out h) ∙ g ∙ ap (λ (j : ℕ). flat_map f (take j l)) e
+  pub left_end : (l ns : List ℕ) (i place : ℕ) → length ns ≤ i → sets l place (flat_map f (drop i ns)) ≡ l
+  unfolding flat_map
+  left_end l ns i place h = rw (drop_of_length-le ns h)
+
+  -- all are written where they fill the list
+  pub each_fill : (l ns : List ℕ) → length l ≡ k * length ns → sets l 0 (flat_map f ns) ≡ flat_map f ns
+  each_fill l ns h =
+      let n : length l ≡ length (flat_map f ns) = h ∙ sym (each_length ns) in
+      sets_fill l (flat_map f ns) (omega arith) ∙ take_all (length l) (flat_map f ns) (omega arith)
 
 -- ---- numbers, eight bytes each
 
@@ -252,15 +245,14 @@ pub numbers_one : (x : ℕ) → numbers (x ∷ []) ≡ le_bytes 8 x
 unfolding flat_map
 numbers_one x = append-nil (le_bytes 8 x)
 
--- one number more is written, at its place
-pub numbers_more : (l ns : List ℕ) (at i place : ℕ) → i < length ns → place ≡ at + 8 * i
-    → sets (sets l place (le_bytes 8 (get_or ns i 0))) (at + 8 * (i + 1)) (numbers (drop (i + 1) ns)) ≡ sets l (at + 8 * i) (numbers (drop i ns))
-unfolding flat_map
-numbers_more l ns at i place h f =
-    let e : at + 8 * (i + 1) ≡ at + 8 * i + length (le_bytes 8 (get_or ns i 0)) = omega (arith, le_bytes_length 8 (get_or ns i 0)) in
-    rw (f, drop-cons ns i 0 h, e, add-one) (sym (sets_append (le_bytes 8 (get_or ns i 0)) (numbers (drop (suc i) ns)) l (at + 8 * i)))
+-- one more is written, where it has room: what is left to write gives what it gave
+pub numbers_next : (l w ns : List ℕ) (at i place : ℕ) → length l < 2 ^ 64 → i < length ns → place ≡ min (at + 8 * i) (2 ^ 64 - 1) → w ≡ sets l place (le_bytes 8 (get_or ns i 0))
+    → sets w (at + 8 * (i + 1)) (numbers (drop (i + 1) ns)) ≡ sets l (at + 8 * i) (numbers (drop i ns))
+numbers_next l w ns at i place h g e f =
+    let x = le_bytes 8 (get_or ns i 0) in
+    ap (λ (o : List ℕ). sets o (at + 8 * (i + 1)) (numbers (drop (i + 1) ns))) (f ∙ ap (λ (j : ℕ). sets l j x) e ∙ sets_capped x l (at + 8 * i) (2 ^ 64 - 1) (omega arith))
+    ∙ left_more (le_bytes 8) 8 (le_bytes_length 8) l ns i (at + 8 * i) (at + 8 * (i + 1)) g (omega arith)
 
 -- all are
-pub numbers_end : (l ns : List ℕ) (at i : ℕ) → length ns ≤ i → sets l (at + 8 * i) (numbers (drop i ns)) ≡ l
-unfolding flat_map
-numbers_end l ns at i h = rw (drop_of_length-le ns h)
+pub numbers_last : (l ns : List ℕ) (at i : ℕ) → length ns ≤ i → sets l (at + 8 * i) (numbers (drop i ns)) ≡ l
+numbers_last l ns at i h = left_end (le_bytes 8) 8 (le_bytes_length 8) l ns i (at + 8 * i) h

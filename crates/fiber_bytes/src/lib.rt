@@ -4,9 +4,10 @@
 
 ghost use Rattle.std.specs.Prelude.{◌≡◌, ◌<◌, length};
 ghost use Rattle.std.proofs.lemmas.List.Edits.{sets};
+ghost use Rattle.fiber_bytes.specs.Bytes as S;
 ghost use Rattle.fiber_bytes.specs.Bytes.{part, le, le_bytes};
 
-// At most n bytes of s from a place on.
+// At most n bytes of s from a place on: n is how many are asked for, not how many s has.
 pub fn part_of<'a>(s: &'a [u8], at: usize, n: usize) -> &'a [u8]
     ensures { result.now ≡ part s.now at n }
 {
@@ -59,5 +60,15 @@ pub fn put_le64(out: &mut [u8], at: usize, x: u64)
         out[at..at + 8].copy_from_slice(&bytes);
     } else {
         put(out, at, &bytes);
+    }
+}
+
+// Writes numbers one behind the other, the eight bytes of each lowest first, from a place on. Bytes that have no room are dropped.
+#[tactic(auto, using(crate::proofs::BytesLaws::numbers_next, crate::proofs::BytesLaws::numbers_last))]
+pub fn put_numbers(out: &mut [u8], at: usize, numbers: &[u64])
+    ensures { out.new ≡ sets out.old at (S.numbers numbers.now) }
+{
+    for (i, number) in numbers.iter().enumerate() {
+        put_le64(out, at.saturating_add(8 * i), *number);
     }
 }

@@ -1,4 +1,4 @@
--- Laws of `specs/Entries.antt`: equal bytes, and one family of laws for every walk over a list of entries, of any size.
+-- Laws of `specs/Entries.antt`: equal bytes, one family of laws for every walk over a list of entries, of any size, and what is told pair by pair of two lists.
 -- Assumes nothing.
 use Prim.Native.Nat.{ℕ, zero, suc, ◌+◌, ◌-◌, ◌*◌, ◌/◌, ◌≤◌, ◌<◌}
 use native.Mathlib.Nat.{div-eq_of_lt, zero-mul, suc-mul, mul-le-mul_right, zero-div, div-mul-le_self, add-mul-div_right}
@@ -6,16 +6,20 @@ use native.Mathlib.Numerals.{add-one}
 use native.Mathlib.Omega.{arith}
 use mathlib.Core.Path.{◌≡◌, refl, sym, ap, ◌∙◌}
 use mathlib.Core.Bool.{Bool, true, false, ◌&&◌, and-eq-true_iff, false≢true}
-use mathlib.Core.List.{List, [], ◌∷◌, ◌++◌}
+use mathlib.Core.List.{List, [], ◌∷◌, ◌++◌, map}
 use lib.Dec.{eqb}
 use lib.ListN.{length, get_or, take, drop, length-append, length-drop, length-take}
 use lib.Seq.{take_all, drop-cons, drop-drop, drop-nil, take_at, drop_at}
 use borrow.Author.Tests.{eqb-true}
-use Rattle.std.specs.Prelude.{Option, Some, None}
+use Rattle.std.specs.List.{list_all, zip}
+use Rattle.std.specs.Prelude.{Option, Some, None, Ok}
 use Rattle.fiber_bytes.specs.Bytes.{part}
 use Rattle.fiber_bytes.proofs.BytesLaws.{part_length}
+use Rattle.fiber_types.specs.HashLen.{valid_hash_len}
+use Rattle.fiber_types.specs.Records.{tlc_at, read_tlc}
+use Rattle.fiber_types.proofs.RecordsLaws.{tlc_whole}
 use Rattle.fiber_witness.specs.Witness.{chunks}
-use Rattle.std.proofs.lemmas.List.{take-append-drop}
+use Rattle.std.proofs.lemmas.List.{take-append-drop, map-id}
 use Rattle.fiber_bytes.proofs.CaseLaws.{by_each}
 use Rattle.fiber_choice.specs.Entries.{same, same_lists, entries, find_first, tracked_len, tracked_record, tracked_records}
 use Rattle.fiber_witness.proofs.WitnessLaws.{Even, even_records, records_length, records_none, records_more}
@@ -31,6 +35,13 @@ tracked_length (e ∷ es) = ap suc (tracked_length es)
 -- as the code cuts it out: all that is behind the first 33 bytes
 pub record_rest : (t : List ℕ) → take (length t - 33) (drop 33 t) ≡ tracked_record t
 record_rest t = take_all (length t - 33) (drop 33 t) (omega (arith, length-drop 33 t))
+
+pub record_part : (t : List ℕ) → part t 33 (length t) ≡ tracked_record t
+record_part t = take_all (length t) (drop 33 t) (omega (arith, length-drop 33 t))
+
+-- of a tracked TLC that is whole it is read
+pub tracked_read : (h : ℕ) (t : List ℕ) → valid_hash_len h ≡ true → length t ≡ 98 + h → read_tlc h (tracked_record t) 0 ≡ Ok (tlc_at h (tracked_record t) 0)
+tracked_read h t k e = tlc_whole h (tracked_record t) 0 k (omega (arith, length-drop 33 t))
 
 -- behind 33 bytes of its entry
 pub tracked_at : (es : List (List ℕ)) (i : ℕ) → get_or (tracked_records es) i [] ≡ tracked_record (get_or es i [])
@@ -48,6 +59,28 @@ lists_length [] [] e = refl
 lists_length [] (y ∷ b) e = absurd (false≢true e)
 lists_length (x ∷ a) [] e = absurd (false≢true e)
 lists_length (x ∷ a) (y ∷ b) e = ap suc (lists_length a b ((and-eq-true_iff (same x y) (same_lists a b)).0 e).1)
+
+-- so of other lengths they differ
+pub lists_differ : (a b : List (List ℕ)) → (length a ≡ length b → ⊥) → false ≡ same_lists a b
+lists_differ a b n = go (same_lists a b) refl
+  where
+    go : (x : Bool) → same_lists a b ≡ x → false ≡ x
+    go true e = absurd (n (lists_length a b e))
+    go false e = refl
+
+-- of one length they are told pair by pair
+pub lists_zip : {A B : Type 0} (f : A → List ℕ) (g : B → List ℕ) (xs : List A) (ys : List B) → length xs ≡ length ys
+    → list_all (λ p. same (f p.0) (g p.1)) (zip xs ys) ≡ same_lists (map f xs) (map g ys)
+unfolding same_lists
+lists_zip f g [] [] e = refl
+lists_zip f g [] (y ∷ ys) e = absurd (omega (arith, e))
+lists_zip f g (x ∷ xs) [] e = absurd (omega (arith, e))
+lists_zip f g (x ∷ xs) (y ∷ ys) e = ap (λ (r : Bool). same (f x) (g y) && r) (lists_zip f g xs ys (omega (arith, e)))
+
+-- records and those of a tracked list, as many
+pub records_paired : (rs ts : List (List ℕ)) → length rs ≡ length ts → list_all (λ p. same p.0 (tracked_record p.1)) (zip rs ts) ≡ same_lists rs (tracked_records ts)
+unfolding tracked_records
+records_paired rs ts e = lists_zip (λ x. x) tracked_record rs ts e ∙ ap (λ (l : List (List ℕ)). same_lists l (map tracked_record ts)) (map-id rs)
 
 -- ---- entries
 

@@ -1,33 +1,34 @@
 -- Laws of `specs/FirstRecords.antt`: one record, the records of a list, and the first state.
 -- Assumes nothing.
-use Prim.Native.Nat.{ℕ, zero, suc, ◌+◌, ◌-◌, ◌*◌, ◌/◌, ◌^◌, ◌≤◌}
+use Prim.Native.Nat.{ℕ, zero, suc, ◌+◌, ◌-◌, ◌*◌, ◌/◌, ◌^◌, ◌≤◌, ◌<◌}
 use native.Mathlib.Nat.{suc-mul}
 use native.Mathlib.Omega.{arith}
 use mathlib.Core.Path.{◌≡◌, refl, sym, ap, ◌∙◌}
-use mathlib.Core.Bool.{Bool, true, false, cond, not, ◌&&◌, and-eq-true_iff}
+use mathlib.Core.Bool.{Bool, true, false, cond, and-eq-true_iff}
 use mathlib.Core.List.{List, [], ◌∷◌, ◌++◌, flatten}
 use lib.ListN.{length, get_or, take, drop, set, replicate, length-take, length-drop, length-append}
-use lib.Seq.{sets, length-sets, take-take, take_all}
+use lib.Seq.{sets, take_all}
 use borrow.Author.Tests.{eq-eqb, le-leb}
-use Rattle.std.proofs.lemmas.Bool.{not-true, not-false}
-use denote.Bor.{Bor}
-use Rattle.std.specs.Option.{is_some, MatchOption}
-use Rattle.std.specs.Prelude.{Ok, Option, Some, None}
+use Rattle.std.specs.List.{list_all, zip}
+use Rattle.std.specs.Prelude.{Ok}
+use Rattle.std.proofs.lemmas.List.{get_or_default}
+use Rattle.std.proofs.lemmas.List.Sums.{AllPass-from_list_all}
+use Rattle.std.proofs.lemmas.Slice.Zip.{length-zip, get_or-zip}
 use Rattle.fiber_bytes.specs.Bytes.{part, le, le_bytes}
 use Rattle.fiber_bytes.proofs.CaseLaws.{by_each}
-use Rattle.fiber_bytes.proofs.BytesLaws.{part_length, sets_append, sets_then, sets_fill, le_bytes_length}
+use Rattle.fiber_bytes.proofs.BytesLaws.{part_length, sets_then, sets_fill, le_bytes_length}
 use Rattle.fiber_types.specs.declared.tlc.Amount.{Amount}
 use Rattle.fiber_types.specs.declared.tlc.Tlc.{Tlc}
 use Rattle.fiber_types.specs.HashLen.{valid_hash_len}
-use Rattle.fiber_types.specs.Records.{amount_at, wrote_tlc}
-use Rattle.fiber_types.proofs.RecordsLaws.{hash_len_small, tlc_bytes_length, tlc_written, outcome_whole}
+use Rattle.fiber_types.specs.Records.{amount_at, amount_bytes, wrote_tlc}
+use Rattle.fiber_types.proofs.RecordsLaws.{hash_len_small, amount_behind, tlc_bytes_length, tlc_written, outcome_whole}
 use Rattle.fiber_witness.specs.Witness.{record_len, chunks}
-use Rattle.fiber_choice.specs.Entries.{same, same_lists, entries, all, settlement_len, tracked_len, tracked_records, valid_settlement, local_key, remote_key}
+use Rattle.fiber_choice.specs.Entries.{same, same_lists, entries, all, settlement_len, tracked_len, tracked_record, tracked_records, valid_settlement, local_key, remote_key}
 use Rattle.fiber_choice.specs.FirstRecords.{hash_of, first_record, first_records, wrote_first_tlc, share_bytes, first_remote, first_local, first_state, wrote_first}
 use Rattle.fiber_choice.specs.Request.{SettlementData, valid_data}
-use Rattle.fiber_witness.proofs.WitnessLaws.{records_length, Even, even_none, even_more, even_here, even_next, flatten_even, state_size}
-use Rattle.fiber_witness.proofs.StridedLaws.{state_puts}
-use Rattle.fiber_choice.proofs.EntriesLaws.{entries_length, entries_even}
+use Rattle.fiber_witness.proofs.WitnessLaws.{records_length, Even, even_none, even_more, even_at, even_here, even_next, flatten_even, state_size}
+use Rattle.fiber_witness.proofs.StridedLaws.{Writing, writing_start, writing_end, writing_room, writing_next, state_puts}
+use Rattle.fiber_choice.proofs.EntriesLaws.{tracked_length, lists_differ, lists_zip, entries_length, entries_even}
 use Rattle.fiber_choice.proofs.HandedLaws.{sets_back}
 use Rattle.fiber_types.proofs.KeyLaws.{hash_length}
 
@@ -35,11 +36,8 @@ use Rattle.fiber_types.proofs.KeyLaws.{hash_length}
 
 module _ (h : ℕ) (b : Bool) (t : List ℕ) (k : valid_hash_len h ≡ true) (n : length t ≡ 124) where
   -- its hash is cut to h bytes
-  first_hash : part t 18 h ≡ take h (part t 18 32)
-  first_hash = sym (take-take h 32 (drop 18 t) (hash_len_small h k))
-
   first_hash_length : length (take h (part t 18 32)) ≡ h
-  first_hash_length = ap length (sym first_hash) ∙ part_length t 18 h (omega (arith, hash_len_small h k))
+  first_hash_length = omega (arith, length-take h (part t 18 32), part_length t 18 32 (omega arith), hash_len_small h k)
 
   -- 65 + h bytes
   pub first_length : length (first_record h b t) ≡ record_len h
@@ -56,7 +54,7 @@ module _ (h : ℕ) (b : Bool) (t : List ℕ) (k : valid_hash_len h ≡ true) (n 
 
   -- what `tlc::write` leaves of its parts
   module _ (out out' : List ℕ) (r : record_len h ≤ length out) (x : Amount) (z : ℕ) (ex : x ≡ amount_at t 2) (ez : z ≡ le (part t 50 8))
-      (H L M : List ℕ) (e_h : H ≡ part t 18 h) (e_l : L ≡ hash_of (local_key t)) (e_m : M ≡ hash_of (remote_key t)) where
+      (H L M : List ℕ) (e_h : H ≡ take h (part t 18 32)) (e_l : L ≡ hash_of (local_key t)) (e_m : M ≡ hash_of (remote_key t)) where
     abbrev put : Tlc
     put = record { kind = get_or t 1 0 * 2 + get_or t 0 0; amount = x; expiry = 2 ^ 62 + z / 1000 }
 
@@ -64,13 +62,13 @@ module _ (h : ℕ) (b : Bool) (t : List ℕ) (k : valid_hash_len h ≡ true) (n 
         → out' ≡ sets out 0 (first_record h b t)
     unfolding first_record
     wrote A B e_a e_b w =
-        let n_h : length H ≡ h = ap length (e_h ∙ first_hash) ∙ first_hash_length in
+        let n_h : length H ≡ h = ap length e_h ∙ first_hash_length in
         let k_h : valid_hash_len (length H) ≡ true = rw n_h k in
         let n_a : length A ≡ 20 = ap length e_a ∙ hash_length (cond b (remote_key t) (local_key t)) in
         let n_b : length B ≡ 20 = ap length e_b ∙ hash_length (cond b (local_key t) (remote_key t)) in
         w
         ∙ sym (tlc_written put H A B out k_h n_a n_b (omega arith) _ refl).1
-        ∙ rw (ex, ez, e_a, e_b, e_h ∙ first_hash)
+        ∙ rw (ex, ez, e_a, e_b, e_h)
 
     -- the key hashes are remote, local
     pub first_remote_lem : b ≡ true → out' ≡ (wrote_tlc put H M L out).bytes → out' ≡ sets out 0 (first_record h b t)
@@ -107,21 +105,17 @@ share_length key a =
 pub share_by_length : (b : Bool) (key : List ℕ) (a : Amount) (other : List ℕ) (a' : Amount) → length (cond b (share_bytes key a) (share_bytes other a')) ≡ 36
 share_by_length b key a other a' = by_each (λ (s : List ℕ). length s ≡ 36) b _ _ (share_length key a) (share_length other a')
 
--- the three writes of a share fill the array
-pub share_puts : (key : List ℕ) (a : Amount) (o₁ o₂ o₃ : List ℕ)
-    → o₁ ≡ sets (replicate 36 0) 0 (hash_of key) → o₂ ≡ sets o₁ 20 (le_bytes 8 a.low) → o₃ ≡ sets o₂ 28 (le_bytes 8 a.high) → o₃ ≡ share_bytes key a
+-- the two writes of a share fill the array
+pub share_puts : (key : List ℕ) (a : Amount) (k o o₁ o₂ : List ℕ)
+    → o₂ ≡ sets o₁ 20 (amount_bytes a) → o₁ ≡ sets o 0 k → k ≡ hash_of key → length o ≡ 36 → o₂ ≡ share_bytes key a
 unfolding share_bytes
-share_puts key a o₁ o₂ o₃ e₁ e₂ e₃ =
-    let z : List ℕ = replicate 36 0 in
-    let p₁ : o₁ ≡ sets z 0 (hash_of key) = e₁ in
-    let n₂ : 20 ≡ length (hash_of key) = sym (hash_length key) in
-    let p₂ = sets_then z (hash_of key) (le_bytes 8 a.low) 20 p₁ e₂ n₂ in
-    let n₃ : 28 ≡ length (hash_of key ++ le_bytes 8 a.low) = omega (arith, length-append (hash_of key) (le_bytes 8 a.low), hash_length key, le_bytes_length 8 a.low) in
-    let p₃ = sets_then z (hash_of key ++ le_bytes 8 a.low) (le_bytes 8 a.high) 28 p₂ e₃ n₃ in
-    let s : length (hash_of key ++ le_bytes 8 a.low ++ le_bytes 8 a.high) ≡ 36 = share_length key a in
-    p₃
-    ∙ sets_fill z (hash_of key ++ le_bytes 8 a.low ++ le_bytes 8 a.high) (omega arith)
-    ∙ take_all 36 (hash_of key ++ le_bytes 8 a.low ++ le_bytes 8 a.high) (omega arith)
+share_puts key a k o o₁ o₂ e₂ e₁ e n =
+    let m : 20 ≡ length k = sym (ap length e ∙ hash_length key) in
+    let share : k ++ amount_bytes a ≡ share_bytes key a = ap (λ (l : List ℕ). l ++ amount_bytes a) e ∙ amount_behind (hash_of key) a in
+    sets_then o k (amount_bytes a) 20 e₁ e₂ m
+    ∙ ap (sets o 0) share
+    ∙ sets_fill o (share_bytes key a) (omega (arith, share_length key a))
+    ∙ take_all (length o) (share_bytes key a) (omega (arith, share_length key a))
 
 -- ---- the records of a list
 
@@ -172,85 +166,65 @@ module _ (h : ℕ) (b : Bool) where
   -- The loop that writes the records from byte 1 on: to write those of ts, which are left, gives what the whole gives.
   pub record Firsts (whole out₀ : List ℕ) (ts : List (List ℕ)) (out : List ℕ) (at : ℕ) : Type 0 where
     pub wells : Wells ts
-    pub same : length out ≡ length out₀
-    pub ends : at + length (flatten (first_records h b ts)) ≡ 1 + length whole
-    pub writes : sets out at (flatten (first_records h b ts)) ≡ sets out₀ 1 whole
+    pub writing : Writing whole out₀ (first_records h b ts) out at
 
   -- before the first
   pub firsts_start : {ts : List (List ℕ)} (s out₀ : List ℕ) → all valid_settlement (entries settlement_len s) ≡ true → ts ≡ entries settlement_len s
       → Firsts (flatten (first_records h b (entries settlement_len s))) out₀ ts out₀ 1
-  firsts_start s out₀ e f = rw f (record { wells = wells_start s e; same = refl; ends = refl; writes = refl })
+  firsts_start s out₀ e f = rw f (record { wells = wells_start s e; writing = writing_start (first_records h b (entries settlement_len s)) out₀ })
 
   module _ {whole out₀ : List ℕ} {ts : List (List ℕ)} {out : List ℕ} {at : ℕ} (c : Firsts whole out₀ ts out at) where
     -- at the end all is written
     pub firsts_end : ts ≡ [] → out ≡ sets out₀ 1 whole
-    unfolding first_records flatten
-    firsts_end e = rw e at c.writes
+    unfolding first_records
+    firsts_end e = (writing_end c.writing (rw e)).1
 
     module _ (k : valid_hash_len h ≡ true) {us : List (List ℕ)} {t : List ℕ} (e : ts ≡ t ∷ us) where
       firsts_here : length (first_record h b t) ≡ record_len h
       firsts_here = first_length h b t k (wells_here c.wells e).1
 
-      more : at + record_len h + length (flatten (first_records h b us)) ≡ 1 + length whole
-      unfolding first_records flatten
-      more = omega (arith, length-append (first_record h b t) (flatten (first_records h b us)), firsts_here, rw e at c.ends)
+      firsts_cons : first_records h b ts ≡ first_record h b t ∷ first_records h b us
+      unfolding first_records
+      firsts_cons = rw e
 
       -- there is room for a record
       pub firsts_room : at + record_len h ≤ 1 + length whole
-      firsts_room = omega (arith, more)
+      firsts_room = rw firsts_here at (writing_room c.writing firsts_cons)
 
       -- one record more
-      pub firsts_next : (out' : List ℕ) → out' ≡ sets out at (first_record h b t) → Firsts whole out₀ us out' (at + record_len h)
-      unfolding first_records flatten
-      firsts_next out' d = record {
-        wells = wells_next c.wells e;
-        same = ap length d ∙ length-sets out at (first_record h b t) ∙ c.same;
-        ends = more;
-        writes =
-            ap (λ (o : List ℕ). sets o (at + record_len h) (flatten (first_records h b us))) d
-            ∙ ap (λ (j : ℕ). sets (sets out at (first_record h b t)) (at + j) (flatten (first_records h b us))) (sym firsts_here)
-            ∙ sym (sets_append (first_record h b t) (flatten (first_records h b us)) out at)
-            ∙ rw e at c.writes;
-      }
+      pub firsts_next : at ≤ length out → (ys : List ℕ) → ys ≡ sets (take (length out - at) (drop at out)) 0 (first_record h b t)
+          → Firsts whole out₀ us (take at out ++ (ys ++ drop (length out - at) (drop at out))) (at + record_len h)
+      firsts_next f ys d = record { wells = wells_next c.wells e; writing = rw firsts_here at (writing_next c.writing firsts_cons f ys d) }
 
-  -- The loop over two lists: whether the records of ts and of ws, which are left, are the same is whether the wholes are.
-  pub record Sames (ts ws : List (List ℕ)) (whole : Bool) : Type 0 where
-    pub wells : Wells ts
-    pub even : Even (tracked_len h) ws
-    pub rest : same_lists (first_records h b ts) (tracked_records ws) ≡ whole
+-- ---- the records beside tracked TLCs
 
-  -- before the first
-  pub sames_start : {ts ws : List (List ℕ)} (s w : List ℕ) → all valid_settlement (entries settlement_len s) ≡ true → ts ≡ entries settlement_len s → ws ≡ entries (tracked_len h) w
-      → Sames ts ws (same_lists (first_records h b (entries settlement_len s)) (tracked_records (entries (tracked_len h) w)))
-  sames_start s w e f g = rw (f, g) (record { wells = wells_start s e; even = entries_even (tracked_len h) w; rest = refl })
+module _ (h : ℕ) (b : Bool) (s w : List ℕ) where
+  abbrev built_of : List (List ℕ)
+  built_of = entries settlement_len s
 
-  module _ {ts ws : List (List ℕ)} {whole : Bool} (c : Sames ts ws whole) where
-    -- where none is left of the first, the answer is whether one is left of the second
-    pub sames_end : ts ≡ [] → (next : Option (Bor (List ℕ))) (vs : List (List ℕ)) {x : Bool} → MatchOption next ((ws ≡ []) × (vs ≡ [])) (λ w. ws ≡ w.now ∷ vs) → is_some next ≡ not x → x ≡ whole
-    unfolding first_records tracked_records same_lists
-    sames_end e None vs n o = not-false _ (sym o) ∙ rw (e, n.0) at c.rest
-    sames_end e (Some w) vs n o = not-true _ (sym o) ∙ rw (e, n) at c.rest
+  abbrev beside : List (List ℕ)
+  beside = entries (tracked_len h) w
 
-    module _ {us : List (List ℕ)} {t : List ℕ} (e : ts ≡ t ∷ us) where
-      -- there are more of the first
-      pub sames_fewer : ws ≡ [] → false ≡ whole
-      unfolding first_records tracked_records same_lists
-      sames_fewer f = rw (e, f) at c.rest
+  -- as many as those, they are told pair by pair
+  pub firsts_paired : length built_of ≡ length beside
+      → list_all (λ p. same (first_record h b p.0) (tracked_record p.1)) (zip built_of beside) ≡ same_lists (first_records h b built_of) (tracked_records beside)
+  unfolding first_records tracked_records
+  firsts_paired e = lists_zip (first_record h b) tracked_record built_of beside e
 
-      module _ {vs : List (List ℕ)} {w : List ℕ} (f : ws ≡ w ∷ vs) where
-        -- the record, and that of the tracked TLC, as they are compared
-        module _ {r : List ℕ} (g : r ≡ first_record h b t) where
-          both : (same r (take (length w - 33) (drop 33 w)) && same_lists (first_records h b us) (tracked_records vs)) ≡ whole
-          unfolding first_records tracked_records same_lists
-          both = rw (g, take_all (length w - 33) (drop 33 w) (omega (arith, length-drop 33 w))) (rw (e, f) at c.rest)
+  -- else they differ
+  pub firsts_differ : (length built_of ≡ length beside → ⊥) → false ≡ same_lists (first_records h b built_of) (tracked_records beside)
+  firsts_differ n = lists_differ _ _ (λ e. n (sym (firsts_count h b built_of) ∙ e ∙ tracked_length beside))
 
-          -- two that differ
-          pub sames_differ : true ≡ not (same r (take (length w - 33) (drop 33 w))) → false ≡ whole
-          sames_differ d = rw (not-true _ (sym d)) at both
-
-          -- two that do not
-          pub sames_next : false ≡ not (same r (take (length w - 33) (drop 33 w))) → Sames us vs whole
-          sames_next d = record { wells = wells_next c.wells e; even = even_next (rw f at c.even); rest = rw (not-false _ (sym d)) at both }
+  -- in each pair both are whole, and the first is well
+  pub pair_well : all valid_settlement built_of ≡ true → (k : ℕ) (x y : List ℕ) → k < length (zip built_of beside) → (x, y) ≡ get_or (zip built_of beside) k (x, y)
+      → ((valid_settlement x ≡ true) × (length x ≡ 124)) × (length y ≡ tracked_len h)
+  pair_well v k x y g e =
+      let few : k < length built_of = omega (arith, g, length-zip built_of beside) in
+      let fewer : k < length beside = omega (arith, g, length-zip built_of beside) in
+      let z = e ∙ get_or-zip built_of beside k (x, y) few fewer in
+      let first : x ≡ get_or built_of k [] = ap (λ (p : List ℕ × List ℕ). p.0) z ∙ get_or_default built_of k x [] few in
+      let second : y ≡ get_or beside k [] = ap (λ (p : List ℕ × List ℕ). p.1) z ∙ get_or_default beside k y [] fewer in
+      ((ap valid_settlement first ∙ AllPass-from_list_all valid_settlement built_of v k [] few, ap length first ∙ even_at (entries_even settlement_len s) k few), ap length second ∙ even_at (entries_even (tracked_len h) w) k fewer)
 
 -- ---- the first state
 

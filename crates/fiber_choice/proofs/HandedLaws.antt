@@ -14,7 +14,7 @@ use Rattle.std.specs.Prelude.{Option, Some, None, is_some, Ok}
 use Rattle.fiber_refusal.specs.declared.Refusal.TheVariants.{OutputShort}
 use Rattle.fiber_choice.specs.Answered.{Answer, decided, refused}
 use Rattle.fiber_bytes.specs.Bytes.{part}
-use Rattle.fiber_bytes.proofs.BytesLaws.{part_length, sets_append, part_part, part_behind}
+use Rattle.fiber_bytes.proofs.BytesLaws.{part_length, sets_append, part_behind}
 use Rattle.fiber_types.specs.declared.tlc.Amount.{Amount}
 use Rattle.fiber_types.specs.declared.unlock.Unlock.{Unlock}
 use Rattle.fiber_since.specs.declared.epoch.Epoch.{Epoch}
@@ -206,6 +206,13 @@ front_back out S r = sets_back out S 0 (length S) refl (omega arith)
 
 -- ---- the unlock
 
+-- a whole pair has a whole preimage
+preimage_length : (preimages : List ℕ) (place : ℕ) → 64 * place + 64 ≤ length preimages → length (pair_preimage (get_or (entries pair_len preimages) place [])) ≡ 32
+preimage_length preimages place g =
+    let k : place < length preimages / 64 = omega arith in
+    let l = part_length (part preimages (place * 64) 64) 32 32 (omega (arith, part_length preimages (place * 64) 64 (omega arith))) in
+    omega (arith, l, ap (λ (t : List ℕ). length (part t 32 32)) (entry_at 64 preimages place k))
+
 module _ (preimages : List ℕ) (p : Plan) (out : List ℕ) (r : 99 ≤ length out) where
   -- without a preimage
   pub unlock_plain : p.pair ≡ None
@@ -219,18 +226,13 @@ module _ (preimages : List ℕ) (p : Plan) (out : List ℕ) (r : 99 ≤ length o
   -- with the second half of its pair
   pub unlock_paired : (place : ℕ) → p.pair ≡ Some place → 64 * place + 64 ≤ length preimages
       → sets out 0 (plan_unlock (entries pair_len preimages) p)
-      ≡ (wrote_unlock (record { byte = p.byte; flag = is_some p.pair }) (replicate 65 0) (part preimages (64 * place + 32) 32) out).bytes
+      ≡ (wrote_unlock (record { byte = p.byte; flag = is_some p.pair }) (replicate 65 0) (pair_preimage (get_or (entries pair_len preimages) place [])) out).bytes
   unfolding plan_unlock preimage_of
   unlock_paired place e g =
       let n : 99 ≡ witness_len (is_some p.pair) = rw e in
-      let k : 64 * place + 32 ≡ place * 64 + 32 = omega arith in
-      let y : part preimages (64 * place + 32) 32 ≡ pair_preimage (get_or (entries pair_len preimages) place []) =
-      ap (λ (j : ℕ). part preimages j 32) k
-      ∙ sym (part_part preimages (place * 64) 64 32 32 (omega arith))
-      ∙ ap (λ (t : List ℕ). part t 32 32) (sym (entry_at 64 preimages place (omega arith))) in
-      rw (ap (preimage_of (entries pair_len preimages)) e, ← y)
-      (unlock_written (record { byte = p.byte; flag = is_some p.pair }) (replicate 65 0) (part preimages (64 * place + 32) 32) out 99 n refl
-      (part_length preimages (64 * place + 32) 32 (omega arith)) r _ refl).1
+      rw (ap (preimage_of (entries pair_len preimages)) e)
+      (unlock_written (record { byte = p.byte; flag = is_some p.pair }) (replicate 65 0) (pair_preimage (get_or (entries pair_len preimages) place [])) out 99 n refl
+      (preimage_length preimages place g) r _ refl).1
 
 -- ---- the new args
 
@@ -278,10 +280,8 @@ module _ (h : ℕ) (args s preimages remote local : List ℕ) (p : Plan)
       go : (pair : Option ℕ) → PairWhole preimages pair
           → length (unlock_bytes (record { byte = p.byte; flag = is_some pair }) (replicate 65 0) (preimage_of (entries pair_len preimages) pair)) ≡ witness_len (is_some pair)
       go (Some place) q =
-          let k : place < length preimages / 64 = omega arith in
-          let l = part_length (part preimages (place * 64) 64) 32 32 (omega (arith, part_length preimages (place * 64) 64 (omega arith))) in
-          unlock_bytes_length (record { byte = p.byte; flag = true }) (replicate 65 0) (part (get_or (entries pair_len preimages) place []) 32 32)
-          ∙ omega (arith, l, ap (λ (t : List ℕ). length (part t 32 32)) (entry_at 64 preimages place k))
+          unlock_bytes_length (record { byte = p.byte; flag = true }) (replicate 65 0) (pair_preimage (get_or (entries pair_len preimages) place []))
+          ∙ omega (arith, preimage_length preimages place q)
       go None q = unlock_bytes_length (record { byte = p.byte; flag = false }) (replicate 65 0) []
 
   -- the new args

@@ -2,11 +2,12 @@
 -- Assumes nothing.
 use Prim.Native.Nat.{ℕ, ◌≤◌}
 use mathlib.Core.Path.{◌≡◌, refl, subst}
-use mathlib.Core.Bool.{Bool, true, false, cond, ◌&&◌, false≢true}
+use mathlib.Core.Bool.{Bool, true, false, cond}
 use mathlib.Core.List.{List}
-use lib.Dec.{eqb, ltb}
+use lib.Dec.{ltb}
 use lib.ListN.{length}
 use borrow.Author.Tests.{ltb-false}
+use Rattle.std.proofs.lemmas.Bool.{and_parts}
 use Rattle.std.specs.Prelude.{Option, Some, None, Result, Ok, Err}
 use Rattle.fiber_refusal.specs.declared.Refusal.{Refusal}
 use Rattle.fiber_refusal.specs.declared.Refusal.TheVariants.{ArgsShort, NoDelay}
@@ -18,7 +19,7 @@ use Rattle.fiber_since.specs.Since.{by_metric, since}
 use Rattle.fiber_since.specs.Epoch.{epoch_of, within_bits}
 use Rattle.fiber_since.proofs.EpochLaws.{epoch_within}
 use Rattle.fiber_types.specs.HashLen.{valid_hash_len}
-use Rattle.fiber_choice.specs.Entries.{entries, whole_entries, all, settlement_len, valid_settlement}
+use Rattle.fiber_choice.specs.Entries.{entries, all, settlement_len, valid_settlement}
 use Rattle.fiber_choice.specs.Request.{Request, valid_data, valid_request, delay_of}
 
 -- ---- row 14
@@ -34,25 +35,10 @@ pub record Valid (q : Request) : Type 0 where
 pub valid : (q : Request) → valid_request q ≡ true → Valid q
 unfolding valid_request valid_data
 valid q e =
-    let d = q.settlement in
-    let z = seven (valid_hash_len q.h) _ _ _ _ (within_bits q.header) (within_bits q.current) e in
-    record { hash = z.0; entries = second (whole_entries settlement_len d.tlcs) (all valid_settlement (entries settlement_len d.tlcs)) (eqb (length d.local_key) 33) (eqb (length d.remote_key) 33) z.1.0; header = z.1.1.0; current = z.1.1.1 }
-  where
-    -- of seven tests that all hold, the four that matter
-    seven : (a b c d e f g : Bool) → (a && b && c && d && e && f && g) ≡ true → (a ≡ true) × ((b ≡ true) × ((f ≡ true) × (g ≡ true)))
-    seven true true true true true true true e = (refl, (refl, (refl, refl)))
-    seven false b c d e f g z = absurd (false≢true z)
-    seven true false c d e f g z = absurd (false≢true z)
-    seven true true false d e f g z = absurd (false≢true z)
-    seven true true true false e f g z = absurd (false≢true z)
-    seven true true true true false f g z = absurd (false≢true z)
-    seven true true true true true false g z = absurd (false≢true z)
-    seven true true true true true true false z = absurd (false≢true z)
-
-    second : (a b c d : Bool) → (a && b && c && d) ≡ true → b ≡ true
-    second a true c d z = refl
-    second false false c d z = absurd (false≢true z)
-    second true false c d z = absurd (false≢true z)
+    let (to_header, current) = and_parts _ _ e in
+    let (to_pairs, header) = and_parts _ _ to_header in
+    let (hash, lent) = and_parts _ _ (and_parts _ _ (and_parts _ _ (and_parts _ _ to_pairs).0).0).0 in
+    record { hash = hash; entries = (and_parts _ _ (and_parts _ _ (and_parts _ _ lent).0).0).1; header = header; current = current }
 
 -- ---- the delay
 

@@ -1,39 +1,39 @@
--- Laws of `specs/Settlements.antt`: the records that stand and the tracked ones, what is handed out in a later and in a first settlement.
+-- Laws of `specs/Settlements.antt`: where a TLC that stands was, what is handed out in a later and in a first settlement.
 -- Assumes nothing.
-use Prim.Native.Nat.{ℕ, zero, suc, ◌+◌, ◌-◌, ◌*◌, ◌≤◌, ◌<◌}
-use native.Mathlib.Nat.{suc-mul, zero-mul, mul-le-mul_right, sub-eq-zero_of_le}
-use native.Mathlib.Numerals.{add-one}
+use Prim.Native.Nat.{ℕ, zero, suc, ◌+◌, ◌*◌, ◌≤◌, ◌<◌}
+use native.Mathlib.Nat.{add-zero, mul-le-mul_right}
 use native.Mathlib.Omega.{arith}
-use mathlib.Core.Path.{◌≡◌, refl, sym, ap, ap₂, subst, ◌∙◌}
-use mathlib.Core.Bool.{Bool, true, false, cond, not, ◌&&◌, ◌||◌, false≢true}
+use mathlib.Core.Path.{◌≡◌, refl, sym, ap, subst, ◌∙◌}
+use mathlib.Core.Bool.{Bool, true, false, cond, ◌||◌, false≢true}
 use mathlib.Core.List.{List, [], ◌∷◌}
 use lib.Dec.{eqb, leb}
-use lib.ListN.{length, get_or, take, drop, drop_of_length-le, length-drop}
-use lib.Seq.{drop-drop, take_all}
+use lib.ListN.{length, get_or, take, drop, drop_of_length-le}
+use lib.Seq.{drop-drop}
 use borrow.Author.Tests.{leb-true, eqb-false}
-use Rattle.std.specs.Prelude.{Option, Some, None, Result, Ok, Err}
+use Rattle.std.specs.Prelude.{Option, Some, None, Ok, Err, slice_get}
+use Rattle.std.specs.Option.{unwrap_or}
+use Rattle.std.proofs.lemmas.Option.{unwrap_or-slice_get}
+use Rattle.std.specs.List.{filter_map, enumerate_from, cons_option}
 use Rattle.std.specs.declared.ops.ControlFlow.TheVariants.{Break}
 use Rattle.fiber_refusal.specs.declared.Refusal.{Refusal}
 use Rattle.fiber_refusal.specs.declared.Refusal.TheVariants.{LengthZero, TooManyTlcs}
-use Rattle.fiber_witness.specs.declared.witness.WitnessLayout.{WitnessLayout}
-use Rattle.fiber_witness.specs.declared.shares.UnlockedShares.{UnlockedShares}
+use Rattle.fiber_witness.specs.declared.left.StateLeft.{StateLeft}
 use Rattle.fiber_choice.specs.declared.kinds.NoChoice.{NoChoice}
 use Rattle.fiber_choice.specs.declared.kinds.NoChoice.TheVariants as NoChoiceCase
 use Rattle.fiber_choice.specs.Answered.{Answer, waiting, refused, Ready, begins, stops_waiting, stops}
 use Rattle.fiber_bytes.proofs.CaseLaws.{by_each}
 use Rattle.fiber_bytes.specs.Bytes.{part}
-use Rattle.fiber_bytes.proofs.BytesLaws.{one_less}
 use Rattle.fiber_since.specs.declared.epoch.Epoch.{Epoch}
 use Rattle.fiber_since.specs.Epoch.{within_bits, scaled}
 use Rattle.fiber_since.specs.inner.Bounds as BoundsCase
 use Rattle.fiber_since.proofs.EpochLaws.{within}
-use Rattle.fiber_witness.specs.Witness.{record_len, chunks, member, places, read_witness}
-use Rattle.fiber_witness.specs.Update.{none, take_unlocks, keep, share_left, standing, by_read, unlocked}
-use Rattle.fiber_witness.specs.inner.Strided.{behind_tlcs}
+use Rattle.fiber_witness.specs.Witness.{record_len, chunks, member}
+use Rattle.fiber_witness.specs.Update.{Unlocked, fine, faulty, keep, standing, unlocked}
 use Rattle.fiber_witness.specs.inner.Marks.{Marks, marked}
-use Rattle.fiber_witness.specs.inner.Taking.{TakesAs}
+use Rattle.fiber_witness.specs.inner.Leaving.{LeavesAs}
+use Rattle.fiber_witness.specs.inner.Records.{standing_of}
 use Rattle.fiber_witness.proofs.WitnessLaws.{records_length}
-use Rattle.fiber_witness.proofs.UpdateLaws.{unlocks_come, All, takes_all, takes_faulty, marks_marked, keep_marked, keep_cons}
+use Rattle.fiber_witness.proofs.UpdateLaws.{marks_marked, keep_cons}
 use Rattle.fiber_choice.specs.declared.kinds.Way.{Way}
 use Rattle.fiber_choice.specs.declared.kinds.Choice.{Choice}
 use Rattle.fiber_choice.specs.declared.kinds.Choice.TheVariants as ChoiceCase
@@ -42,7 +42,7 @@ use Rattle.fiber_choice.specs.declared.kinds.Dues.{Dues}
 use Rattle.fiber_choice.specs.declared.kinds.Stage.TheVariants as StageCase
 use Rattle.fiber_choice.specs.declared.kinds.Wait.{Wait}
 use Rattle.fiber_choice.specs.declared.kinds.Wait.TheVariants as WaitCase
-use Rattle.fiber_choice.specs.Entries.{same, same_lists, entries, tracked_len, tracked_records}
+use Rattle.fiber_choice.specs.Entries.{same, same_lists, tracked_records}
 use Rattle.fiber_choice.specs.Request.{Request, settlement_tlcs, tracked_tlcs, pairs}
 use Rattle.fiber_choice.specs.FirstRecords.{hash_of, first_records, first_remote, first_local}
 use Rattle.fiber_choice.specs.Walk.{Step, pends, chooses, our_share}
@@ -51,10 +51,10 @@ use Rattle.fiber_choice.specs.Waits.{wait_number}
 use Rattle.fiber_types.specs.Records.{Outcome, Gives}
 use Rattle.fiber_choice.specs.HandedOut.{handed_out}
 use Rattle.fiber_choice.specs.Settlements.{walked_by, wait_by, or_wait, if_ready, later_ready, is_last, later_choice, unsettled, later_place, later_state, later_of, later, first_delay, first_place, first_thirds, lengths_zero, first_ready, first}
-use Rattle.fiber_choice.specs.inner.Plan.{Reaches, Within, Below}
+use Rattle.fiber_choice.specs.inner.Plan.{Within, Below}
 use Rattle.fiber_choice.specs.declared.kinds.Chosen.{Chosen}
 use Rattle.fiber_choice.specs.inner.Noting.{pick_of, Pick, picked, unpicked}
-use Rattle.fiber_choice.proofs.EntriesLaws.{lists_length, record_at, tracked_length, entry_left, lists_equal}
+use Rattle.fiber_choice.proofs.EntriesLaws.{lists_length, record_at, tracked_length, lists_equal}
 use Rattle.fiber_choice.proofs.FirstRecordsLaws.{firsts_count}
 use Rattle.fiber_choice.proofs.WalkLaws.{StepWithin, walked_within, reaches_later, reaches_first}
 use Rattle.fiber_choice.proofs.WaitsLaws.{Unchosen}
@@ -128,145 +128,28 @@ module _ (s : Step) (w : Wait) where
           of (Ok d) = d
           of (Err wait) = c
 
--- ---- the records that stand, and the tracked ones
-
--- the records that stand, from place i on
-abbrev stand : ℕ → List ℕ → ℕ → List Bool → ℕ → List (List ℕ)
-stand h w n marks i = keep (marked marks) i (drop i (chunks (record_len h) n (drop 2 w)))
-
--- the part of the witness that the code compares is the record
-pub record_differs : (w t : List ℕ) (from size h : ℕ) (b : Bool) → size ≡ 65 + h → b ≡ not (same (take (from + size - from) (drop from w)) (take (length t - 33) (drop 33 t)))
-    → same (part w from (record_len h)) (drop 33 t) ≡ not b
-record_differs w t from size h b e f =
-    let k : from + size - from ≡ record_len h = omega arith in
-    let r : take (length t - 33) (drop 33 t) ≡ drop 33 t = take_all (length t - 33) (drop 33 t) (omega (arith, length-drop 33 t)) in
-    flip _ (f ∙ ap₂ (λ (n : ℕ) (u : List ℕ). not (same (take n (drop from w)) u)) k r)
-  where
-    flip : (x : Bool) → b ≡ not x → x ≡ not b
-    flip true g = sym (ap not g)
-    flip false g = sym (ap not g)
-
--- The loop, at record i of the witness, with the tracked TLCs that are left: to compare the rests, from here, gives what comparing all gives.
-pub record Comparing (h : ℕ) (w : List ℕ) (n : ℕ) (marks : List Bool) (s : List ℕ) (whole : Bool) (from : ℕ) (es : List (List ℕ)) (i : ℕ) : Type 0 where
-  pub low : i ≤ n
-  pub j : ℕ
-  pub begins : from ≡ 2 + i * record_len h
-  pub left : es ≡ drop j (entries (tracked_len h) s)
-  pub rest : same_lists (stand h w n marks i) (tracked_records es) ≡ whole
-
--- before the first, all are left
-pub comparing_start : (h : ℕ) (w : List ℕ) (n : ℕ) (marks : List Bool) (s : List ℕ) (es : List (List ℕ)) → es ≡ entries (tracked_len h) s
-    → Comparing h w n marks s (same_lists (standing h w n (marked marks)) (tracked_records (entries (tracked_len h) s))) 2 es 0
-unfolding standing
-comparing_start h w n marks s es e = record { low = omega arith; j = 0; begins = omega (arith, zero-mul (record_len h)); left = e; rest = rw e }
-
-module _ (h : ℕ) (w : List ℕ) (n : ℕ) (marks : List Bool) (s : List ℕ) (whole : Bool) (from : ℕ) (es : List (List ℕ)) (i : ℕ) (c : Comparing h w n marks s whole from es i) where
-  -- at the end none is left of the witness's
-  comparing_rest : n ≤ i → same_lists [] (tracked_records es) ≡ whole
-  unfolding keep
-  comparing_rest g =
-      let a : length (chunks (record_len h) n (drop 2 w)) ≤ i = omega (arith, records_length (record_len h) n (drop 2 w)) in
-      let p : drop i (chunks (record_len h) n (drop 2 w)) ≡ [] = drop_of_length-le (chunks (record_len h) n (drop 2 w)) a in
-      rw p at c.rest
-
-  -- nor of the tracked ones
-  pub comparing_end : n ≤ i → es ≡ [] → true ≡ whole
-  unfolding tracked_records same_lists
-  comparing_end g e = rw e at (comparing_rest g)
-
-  -- or one is
-  pub comparing_over : n ≤ i → (t : List ℕ) (ts : List (List ℕ)) → es ≡ t ∷ ts → false ≡ whole
-  unfolding tracked_records same_lists
-  comparing_over g t ts e = rw e at (comparing_rest g)
-
-  module _ (l : length marks ≡ n) (g : i < n) where
-    -- the record at place i
-    stand_at : get_or (chunks (record_len h) n (drop 2 w)) i [] ≡ part w from (record_len h)
-    stand_at =
-        record_at (record_len h) n (drop 2 w) i g
-        ∙ ap (take (record_len h)) (drop-drop (i * record_len h) 2 w)
-        ∙ ap (λ (m : ℕ). part w m (record_len h)) (sym c.begins)
-
-    -- those that stand, by the mark of place i
-    stand_cons : (b : Bool) → get_or marks i false ≡ b
-        → stand h w n marks i ≡ cond b (stand h w n marks (i + 1)) (part w from (record_len h) ∷ stand h w n marks (i + 1))
-    unfolding Marks
-    stand_cons b m =
-        rw (sym (marks_marked marks i (omega (arith, l, g))) ∙ m, stand_at) at
-        (keep_cons (marked marks) (chunks (record_len h) n (drop 2 w)) i (omega (arith, records_length (record_len h) n (drop 2 w))))
-
-    -- one record further
-    next_begins : from + record_len h ≡ 2 + (i + 1) * record_len h
-    next_begins = omega (arith, c.begins, add-one i, suc-mul i (record_len h))
-
-    -- the record is whole
-    pub comparing_from : behind_tlcs h n ≤ length w → from + record_len h ≤ length w
-    comparing_from f = omega (arith, c.begins, suc-mul i (record_len h), mul-le-mul_right (record_len h) g)
-
-    -- a record that is settled is passed
-    pub comparing_gone : get_or marks i false ≡ true → Comparing h w n marks s whole (from + record_len h) es (i + 1)
-    comparing_gone m = record { low = omega arith; j = c.j; begins = next_begins; left = c.left; rest = rw (stand_cons true m) at c.rest }
-
-    module _ (m : get_or marks i false ≡ false) where
-      -- no TLC is left for it
-      pub comparing_short : es ≡ [] → false ≡ whole
-      unfolding tracked_records same_lists
-      comparing_short e = rw (stand_cons false m, e) at c.rest
-
-      module _ (t : List ℕ) (ts : List (List ℕ)) (e : es ≡ t ∷ ts) where
-        -- the two, and the rests
-        compare_cons : (same (part w from (record_len h)) (drop 33 t) && same_lists (stand h w n marks (i + 1)) (tracked_records ts)) ≡ whole
-        unfolding tracked_records same_lists
-        compare_cons = rw (stand_cons false m, e) at c.rest
-
-        -- they differ
-        pub comparing_differ : same (part w from (record_len h)) (drop 33 t) ≡ false → false ≡ whole
-        comparing_differ f = rw f at compare_cons
-
-        -- they are the same
-        pub comparing_same : same (part w from (record_len h)) (drop 33 t) ≡ true → Comparing h w n marks s whole (from + record_len h) ts (i + 1)
-        comparing_same f = record {
-          low = omega arith;
-          j = c.j + 1;
-          begins = next_begins;
-          left = (entry_left (tracked_len h) s c.j es t ts c.left e).rest;
-          rest = rw f at compare_cons;
-        }
-
-        -- the TLC is whole
-        pub comparing_whole : length t ≡ tracked_len h
-        comparing_whole = (entry_left (tracked_len h) s c.j es t ts c.left e).whole
-
 -- ---- where a TLC that stands was
 
--- The loop, at place i of the witness, looking for the TLC with so many that stand before it: to look from here finds what looking at all finds.
-module _ (n : ℕ) (marks : List Bool) (whole left i : ℕ) (c : get_or (unsettled (marked marks) i (n - i)) left 0 ≡ whole) where
-  -- none stands there
-  pub placing_end : n ≤ i → 0 ≡ whole
-  unfolding unsettled
-  placing_end h = rw (sub-eq-zero_of_le h) at c
+-- a place whose mark is false
+abbrev pub unmarked : ℕ × Bool → Option ℕ
+unmarked p = cond p.1 None (Some p.0)
 
-  module _ (l : length marks ≡ n) (h : i < n) where
-    -- those that stand, by the mark of place i
-    unsettled_cons : (b : Bool) → get_or marks i false ≡ b
-        → unsettled (marked marks) i (n - i) ≡ cond b (unsettled (marked marks) (i + 1) (n - (i + 1))) (i ∷ unsettled (marked marks) (i + 1) (n - (i + 1)))
-    unfolding unsettled Marks
-    unsettled_cons b m = rw (one_less n i h, sym (marks_marked marks i (omega (arith, l, h))) ∙ m)
+-- from a place on, those places are the ones that are not settled
+unmarked_from : (marks : List Bool) (s : List ℕ) (i : ℕ) → ((j : ℕ) → j < length marks → get_or marks j false ≡ member (i + j) s)
+    → filter_map unmarked (enumerate_from i marks) ≡ unsettled s i (length marks)
+unfolding unsettled
+unmarked_from [] s i m = refl
+unmarked_from (b ∷ bs) s i m =
+    rw (← ap (λ (k : ℕ). member k s) (add-zero i), ← m 0 (omega arith), ← unmarked_from bs s (i + 1) (λ j h. m (suc j) (omega (arith, h)) ∙ ap (λ (k : ℕ). member k s) (omega arith)))
+    (go b (filter_map unmarked (enumerate_from (i + 1) bs)))
+  where
+    go : (b : Bool) (ps : List ℕ) → cons_option (unmarked (i, b)) ps ≡ cond b ps (i ∷ ps)
+    go true ps = refl
+    go false ps = refl
 
-    -- one that is settled is passed
-    pub placing_gone : get_or marks i false ≡ true → get_or (unsettled (marked marks) (i + 1) (n - (i + 1))) left 0 ≡ whole
-    placing_gone m = rw (unsettled_cons true m) at c
-
-    module _ (m : get_or marks i false ≡ false) where
-      -- it is the one
-      pub placing_found : left ≡ 0 → i ≡ whole
-      placing_found e = rw (unsettled_cons false m, e) at c
-
-      -- it stands before the one
-      pub placing_more : (left ≡ 0 → ⊥) → get_or (unsettled (marked marks) (i + 1) (n - (i + 1))) (left - 1) 0 ≡ whole
-      placing_more ne =
-          let z : left ≡ suc (left - 1) = omega arith in
-          rw (unsettled_cons false m, z) at c
+pub unmarked_stand : (marks : List Bool) → filter_map unmarked (enumerate_from 0 marks) ≡ unsettled (marked marks) 0 (length marks)
+unfolding Marks
+unmarked_stand marks = unmarked_from marks (marked marks) 0 (λ j h. marks_marked marks j h ∙ ap (λ (k : ℕ). member k (marked marks)) (omega arith))
 
 -- no place is behind the last
 unsettled_below : (s : List ℕ) (n i place : ℕ) → get_or (unsettled s i n) place 0 ≤ i + n
@@ -280,10 +163,15 @@ unsettled_below s (suc n) i place = go (member i s) place (λ p. unsettled_below
     go false zero f = omega arith
     go false (suc p) f = omega (arith, f p)
 
+-- the place of one that stands, or 0 behind the last, as the code finds it
+pub place_found : (ps : List ℕ) (place r : ℕ) (found : Option ℕ) → found ≡ slice_get ps place → r ≡ unwrap_or found 0 → r ≡ get_or ps place 0
+place_found ps place r found e f = f ∙ ap (λ (o : Option ℕ). unwrap_or o 0) e ∙ unwrap_or-slice_get ps place 0
+
 -- so its record begins within 255 records
-pub place_small : (s : List ℕ) (n place h r : ℕ) → n ≤ 255 → h ≤ 32 → r ≡ get_or (unsettled s 0 n) place 0 → r * record_len h ≤ 255 * 97
-place_small s n place h r e f g =
-    let b : r ≤ 255 = omega (arith, unsettled_below s n 0 place) in
+pub place_small : (s : List ℕ) (n place h r : ℕ) (found : Option ℕ) → n ≤ 255 → h ≤ 32 → found ≡ slice_get (unsettled s 0 n) place → r ≡ unwrap_or found 0
+    → r * record_len h ≤ 255 * 97
+place_small s n place h r found e f g k =
+    let b : r ≤ 255 = omega (arith, place_found (unsettled s 0 n) place r found g k, unsettled_below s n 0 place) in
     omega (arith, mul-le-mul_right (record_len h) b)
 
 -- ---- a later settlement
@@ -367,34 +255,44 @@ choice_within q last =
     by_each (StepWithin (length (tracked_tlcs q)) (length (settlement_tlcs q)) (length (pairs q))) last _ _ ((tt, tt), tt)
     (walked_within q.h q.for_remote q.time (settlement_tlcs q) (pairs q) StageCase.Later (length (tracked_tlcs q)) (reaches_later _ _) (tracked_tlcs q) refl)
 
--- of a state that the witness's unlocks leave, with what the code finds of it
-module _ (q : Request) (out : List ℕ) (tlcs : List (List ℕ)) (firsts remote local ours other : List ℕ)
-    (p : ours ≡ cond q.for_remote local remote) (o : other ≡ cond q.for_remote remote local) (last : Bool) (l : last ≡ is_last other) (r : Ready) (e : r ≡ later_ready q tlcs ours) where
-  state_as : if_ready r out (or_wait q remote local last (λ c. None) (later_place q.h firsts) (wait_by q StageCase.Later) out (later_choice q last)) ≡ later_state q out tlcs firsts remote local
-  unfolding later_state
-  state_as = rw (e, p, l, o)
+-- What the code finds of a state that the witness's unlocks leave: whether it is the last settlement, and whether the walk may begin.
+pub record Begun (q : Request) (tlcs : List (List ℕ)) (remote local : List ℕ) (last : Bool) (r : Ready) : Type 0 where
+  pub ends : last ≡ is_last (cond q.for_remote remote local)
+  pub rows : r ≡ later_ready q tlcs (cond q.for_remote local remote)
 
-  -- rows 12, 20 and 21
-  pub state_stops : (why : NoChoice) → r ≡ Err why → Gives (later_state q out tlcs firsts remote local) (Err why) out
-  state_stops why f = leaves_as _ _ state_as _ _ (ready_stops r out _ why f)
+-- by the two sides' shares
+pub state_begun : {q : Request} {tlcs : List (List ℕ)} {remote local ours other : List ℕ} {last : Bool} {r : Ready}
+    → ours ≡ cond q.for_remote local remote → other ≡ cond q.for_remote remote local → last ≡ is_last other → r ≡ later_ready q tlcs ours
+    → Begun q tlcs remote local last r
+state_begun p o l e = record { ends = rw o at l; rows = rw p at e }
+
+module _ {q : Request} {tlcs : List (List ℕ)} {remote local : List ℕ} {last : Bool} {r : Ready} (b : Begun q tlcs remote local last r) where
+  module _ (out firsts : List ℕ) where
+    state_as : if_ready r out (or_wait q remote local last (λ c. None) (later_place q.h firsts) (wait_by q StageCase.Later) out (later_choice q last)) ≡ later_state q out tlcs firsts remote local
+    unfolding later_state
+    state_as = rw (b.rows, b.ends)
+
+    -- rows 12, 20 and 21
+    pub state_stops : (why : NoChoice) → r ≡ Err why → Gives (later_state q out tlcs firsts remote local) (Err why) out
+    state_stops why f = leaves_as _ _ state_as _ _ (ready_stops r out _ why f)
 
   module _ (y : r ≡ begins) where
     -- no more are tracked than stand
     pub state_few : length (tracked_tlcs q) ≤ 254
     state_few =
-        let z = later_ready_lem q tlcs ours (sym e ∙ y) in
+        let z = later_ready_lem q tlcs _ (sym b.rows ∙ y) in
         lists_few (tracked_tlcs q) tlcs (length tlcs) 254 refl z.0 z.1
 
-    module _ (s : Pick) (f : s ≡ pick_of (later_choice q last) (wait_by q StageCase.Later)) where
+    module _ {s : Pick} (f : s ≡ pick_of (later_choice q last) (wait_by q StageCase.Later)) where
       -- rows 23 to 25
-      pub state_nothing : (wait : Wait) → s ≡ unpicked wait → Gives (later_state q out tlcs firsts remote local) (waiting wait) out
-      state_nothing wait g =
+      pub state_nothing : (out firsts : List ℕ) (wait : Wait) → s ≡ unpicked wait → Gives (later_state q out tlcs firsts remote local) (waiting wait) out
+      state_nothing out firsts wait g =
           let p = pick_wait (later_choice q last) (wait_by q StageCase.Later) wait (sym f ∙ g) in
           rw (← p.1.1)
-          (leaves_as _ _ (ready_yes r out _ y ∙ state_as) _ _
+          (leaves_as _ _ (ready_yes r out _ y ∙ state_as out firsts) _ _
           (nothing_chosen q remote local last (λ c. None) (later_place q.h firsts) (wait_by q StageCase.Later) out (later_choice q last) p.0 p.1.0))
 
-      module _ (choice : Choice) (key : Key) (g : s ≡ picked choice key) where
+      module _ {choice : Choice} {key : Key} (g : s ≡ picked choice key) where
         state_picked : later_choice q last ≡ chooses choice key
         state_picked = pick_chosen (later_choice q last) (wait_by q StageCase.Later) choice key (sym f ∙ g)
 
@@ -402,51 +300,39 @@ module _ (q : Request) (out : List ℕ) (tlcs : List (List ℕ)) (firsts remote 
         state_within = (subst (StepWithin (length (tracked_tlcs q)) (length (settlement_tlcs q)) (length (pairs q))) state_picked (choice_within q last)).0
 
         -- what is handed out
-        pub state_chosen : (place : ℕ) → place ≡ later_place q.h firsts choice → (a : Answer) (after : List ℕ)
+        pub state_chosen : (out firsts : List ℕ) (place : ℕ) → place ≡ later_place q.h firsts choice → (a : Answer) (after : List ℕ)
             → Gives (handed_out q.h q.args (tracked_tlcs q) (pairs q) remote local last choice key None place out) a after
             → Gives (later_state q out tlcs firsts remote local) a after
-        state_chosen place k a after w =
-            leaves_as _ _ (one_chosen q remote local last (λ c. None) (later_place q.h firsts) (wait_by q StageCase.Later) out (later_choice q last) choice key state_picked ∙ ready_yes r out _ y ∙ state_as) a after (rw k at w)
+        state_chosen out firsts place k a after w =
+            leaves_as _ _ (one_chosen q remote local last (λ c. None) (later_place q.h firsts) (wait_by q StageCase.Later) out (later_choice q last) choice key state_picked ∙ ready_yes r out _ y ∙ state_as out firsts) a after (rw k at w)
 
 module _ (q : Request) (w out : List ℕ) where
-  -- a witness that is not read
-  pub later_refused : (r : Refusal) → read_witness q.h w ≡ Err r → Gives (later q w out) (refused r) out
-  unfolding later later_of unlocked by_read
-  later_refused r e = (rw e, rw e)
+  by_refused : (u : Unlocked) (r : Refusal) → LeavesAs q.h w u (Err r) → Gives (later_of q w out u) (refused r) out
+  unfolding LeavesAs later_of
+  by_refused (fine n share_place t) r j = absurd j
+  by_refused (faulty p) r j = (ap refused j, refl)
 
-  -- one that is read whole
-  pub later_whole : (l : WitnessLayout) → read_witness q.h w ≡ Ok l
-      → later_of q w out (take_unlocks l.n l.share_place w none (places w l.first_unlock)) ≡ later q w out
-  unfolding later unlocked by_read
-  later_whole l e = rw e
+  -- of what a witness leaves, by the marks
+  abbrev of_left : StateLeft → Outcome Answer
+  of_left x =
+      let m = x.records.marks.now in
+      later_state q out (standing_of x.records) (unsettled (marked m) 0 (length m)) x.shares.remote.now x.shares.local.now
 
-  -- with the answer of `take_unlocks`
-  module _ (n share_place start : ℕ) (marks : List Bool) (l : length marks ≡ n) where
-    -- row 5 or 6
-    pub later_faulty : (r : Refusal) → TakesAs (take_unlocks n share_place w none (places w start)) (Err r) marks
-        → Gives (later_of q w out (take_unlocks n share_place w none (places w start))) (refused r) out
-    unfolding later_of
-    later_faulty r j = let f = takes_faulty r marks (unlocks_come n share_place w none (places w start)) j in (rw f, rw f)
+  by_left : (u : Unlocked) (x : StateLeft) → LeavesAs q.h w u (Ok x) → of_left x ≡ later_of q w out u
+  unfolding LeavesAs later_of
+  by_left (fine n share_place t) x j =
+      rw (j.stands, j.remote, j.local, unsettled_marked x.records.marks.now t.settled j.says (length x.records.marks.now) (omega arith), j.many)
+  by_left (faulty p) x j = absurd j
 
-    -- every unlock is taken, and the marks say what was settled
-    pub later_fine : (v : UnlockedShares) → TakesAs (take_unlocks n share_place w none (places w start)) (Ok v) marks
-        → (x y : List ℕ) → x ≡ share_left v.remote (part w share_place 36) → y ≡ share_left v.local (part w (share_place + 36) 36)
-        → later_state q out (standing q.h w n (marked marks)) (unsettled (marked marks) 0 n) x y ≡ later_of q w out (take_unlocks n share_place w none (places w start))
-    unfolding later_of standing
-    later_fine v j x y f g = go (takes_all v marks (unlocks_come n share_place w none (places w start)) j)
-      where
-        go : All n share_place marks v.remote v.local (take_unlocks n share_place w none (places w start))
-            → later_state q out (standing q.h w n (marked marks)) (unsettled (marked marks) 0 n) x y ≡ later_of q w out (take_unlocks n share_place w none (places w start))
-        go t =
-            rw (
-              t.is,
-              f,
-              g,
-              keep_marked marks t.taken.settled t.says (chunks (record_len q.h) n (drop 2 w)) (omega (arith, l, records_length (record_len q.h) n (drop 2 w))),
-              unsettled_marked marks t.taken.settled t.says n (omega (arith, l)),
-              t.remote_is,
-              t.local_is,
-            )
+  -- a witness that is turned down
+  pub later_refused : (r : Refusal) → LeavesAs q.h w (unlocked q.h w) (Err r) → Gives (later q w out) (refused r) out
+  unfolding later
+  later_refused r j = by_refused (unlocked q.h w) r j
+
+  -- one of which this is left
+  pub later_left : (x : StateLeft) → LeavesAs q.h w (unlocked q.h w) (Ok x) → of_left x ≡ later q w out
+  unfolding later
+  later_left x j = by_left (unlocked q.h w) x j
 
 -- ---- a first settlement
 
@@ -506,10 +392,22 @@ first_ready_lem q full = go (lengths_zero q.header q.current full) (leb (length 
       many = same_many q.h q.for_remote (settlement_tlcs q) (tracked_tlcs q) true (sym c) refl;
     }
 
--- their fields being within their bits
-pub ready_within : (q : Request) (full : Epoch) → FirstReady q full → within_bits q.header ≡ true → within_bits q.current ≡ true → within_bits full ≡ true
-    → BoundsCase.Bounded q.header × (BoundsCase.Bounded q.current × BoundsCase.Bounded full)
-ready_within q full r a b c = (within q.header a r.some.0, (within q.current b r.some.1.0, within full c r.some.1.1))
+-- the same of what the code finds, the fields of the epochs being within their bits
+module _ (q : Request) (full : Epoch) (r : Ready) (e : r ≡ first_ready q full) (f : r ≡ begins) where
+  found : FirstReady q full
+  found = first_ready_lem q full (sym e ∙ f)
+
+  pub ready_few : length (tracked_tlcs q) ≤ 254
+  ready_few = omega (arith, found.few, found.many)
+
+  pub ready_many : length (settlement_tlcs q) ≡ length (tracked_tlcs q)
+  ready_many = found.many
+
+  pub ready_bounded : within_bits q.header ≡ true → within_bits q.current ≡ true → BoundsCase.Bounded q.header × BoundsCase.Bounded q.current
+  ready_bounded a b = (within q.header a found.some.0, within q.current b found.some.1.0)
+
+  pub ready_full : within_bits full ≡ true → BoundsCase.Bounded full
+  ready_full a = within full a found.some.1.1
 
 module _ (q : Request) (full : Epoch) (out : List ℕ) (r : Ready) (e : r ≡ first_ready q full) where
   -- rows 7, 12 and 20
@@ -522,9 +420,20 @@ module _ (q : Request) (full : Epoch) (out : List ℕ) (r : Ready) (e : r ≡ fi
   unfolding first
   first_begins f = ready_yes (first_ready q full) out _ (sym e ∙ f)
 
--- by the thirds of the delay, with what the code finds of them
-module _ (q : Request) (out : List ℕ) (full third two : Epoch) (x y : Result Epoch Refusal) (ex : x ≡ scaled full 1 3) (fx : x ≡ Ok third) (ey : y ≡ scaled full 2 3) (fy : y ≡ Ok two)
-    (d : Dues) (ed : d ≡ dues_by q.header third two full q.current) (s : Pick) (es : s ≡ pick_of (walked_by q (StageCase.First d)) (wait_by q (StageCase.First d))) where
+-- what the walk chooses is among the tracked TLCs
+pub first_within : (q : Request) (d : Dues) → length (settlement_tlcs q) ≡ length (tracked_tlcs q)
+    → StepWithin (length (tracked_tlcs q)) (length (settlement_tlcs q)) (length (pairs q)) (walked_by q (StageCase.First d))
+first_within q d e =
+    walked_within q.h q.for_remote q.time (settlement_tlcs q) (pairs q) (StageCase.First d) (length (tracked_tlcs q)) (reaches_first d (length (tracked_tlcs q)) (length (settlement_tlcs q)) e) (tracked_tlcs q) refl
+
+-- What the code finds by the thirds of the delay: which parts of it are due, and what the walk picks.
+pub record ByThirds (q : Request) (full third two : Epoch) (d : Dues) (s : Pick) : Type 0 where
+  pub third_is : scaled full 1 3 ≡ Ok third
+  pub two_is : scaled full 2 3 ≡ Ok two
+  pub dues : d ≡ dues_by q.header third two full q.current
+  pub picks : s ≡ pick_of (walked_by q (StageCase.First d)) (wait_by q (StageCase.First d))
+
+module _ {q : Request} {full third two : Epoch} {d : Dues} {s : Pick} (t : ByThirds q full third two d s) where
   -- the delay that goes with a choice
   abbrev scaled_delay : Choice → Option Epoch
   scaled_delay choice = Some (first_delay third two full choice)
@@ -542,40 +451,30 @@ module _ (q : Request) (out : List ℕ) (full third two : Epoch) (x y : Result E
   abbrev waits : Wait
   waits = wait_by q (StageCase.First d)
 
-  thirds_as : or_wait q remotely locally false scaled_delay (first_place q.h) waits out walks ≡ first_thirds q out full (scaled full 1 3) (scaled full 2 3)
+  thirds_as : (out : List ℕ) → or_wait q remotely locally false scaled_delay (first_place q.h) waits out walks ≡ first_thirds q out full (scaled full 1 3) (scaled full 2 3)
   unfolding first_thirds
-  thirds_as = rw (← ex, fx, ← ey, fy, ← ed)
+  thirds_as out = rw (t.third_is, t.two_is, ← t.dues)
 
   -- rows 22 to 25
-  pub thirds_nothing : (wait : Wait) → s ≡ unpicked wait → Gives (first_thirds q out full (scaled full 1 3) (scaled full 2 3)) (waiting wait) out
-  thirds_nothing wait g =
-      let p = pick_wait walks waits wait (sym es ∙ g) in
-      rw (← p.1.1) (leaves_as _ _ thirds_as _ _ (nothing_chosen q remotely locally false scaled_delay (first_place q.h) waits out walks p.0 p.1.0))
+  pub thirds_nothing : (out : List ℕ) (wait : Wait) → s ≡ unpicked wait → Gives (first_thirds q out full (scaled full 1 3) (scaled full 2 3)) (waiting wait) out
+  thirds_nothing out wait g =
+      let p = pick_wait walks waits wait (sym t.picks ∙ g) in
+      rw (← p.1.1) (leaves_as _ _ (thirds_as out) _ _ (nothing_chosen q remotely locally false scaled_delay (first_place q.h) waits out walks p.0 p.1.0))
 
-  module _ (choice : Choice) (key : Key) (g : s ≡ picked choice key) where
+  module _ {choice : Choice} {key : Key} (g : s ≡ picked choice key) where
     thirds_picked : walks ≡ chooses choice key
-    thirds_picked = pick_chosen walks waits choice key (sym es ∙ g)
+    thirds_picked = pick_chosen walks waits choice key (sym t.picks ∙ g)
 
     pub thirds_within : length (settlement_tlcs q) ≡ length (tracked_tlcs q) → Within (length (tracked_tlcs q)) (length (pairs q)) choice
-    thirds_within e =
-        (subst (StepWithin (length (tracked_tlcs q)) (length (settlement_tlcs q)) (length (pairs q))) thirds_picked
-        (walked_within q.h q.for_remote q.time (settlement_tlcs q) (pairs q) (StageCase.First d) (length (tracked_tlcs q)) (reaches_first d (length (tracked_tlcs q)) (length (settlement_tlcs q)) e) (tracked_tlcs q) refl)
-        ).0
+    thirds_within m = (subst (StepWithin (length (tracked_tlcs q)) (length (settlement_tlcs q)) (length (pairs q))) thirds_picked (first_within q d m)).0
 
     -- what is handed out
-    pub thirds_chosen : (remote local : List ℕ) (delay : Epoch) (place : ℕ) → remote ≡ first_remote q.for_remote q.settlement → local ≡ first_local q.for_remote q.settlement
+    pub thirds_chosen : (out remote local : List ℕ) (delay : Epoch) (place : ℕ) → remote ≡ first_remote q.for_remote q.settlement → local ≡ first_local q.for_remote q.settlement
         → delay ≡ first_delay third two full choice → place ≡ first_place q.h choice → (a : Answer) (after : List ℕ)
         → Gives (handed_out q.h q.args (tracked_tlcs q) (pairs q) remote local false choice key (Some delay) place out) a after
         → Gives (first_thirds q out full (scaled full 1 3) (scaled full 2 3)) a after
-    thirds_chosen remote local delay place er el ed ep a after w =
-        leaves_as _ _ (one_chosen q remotely locally false scaled_delay (first_place q.h) waits out walks choice key thirds_picked ∙ thirds_as) a after (rw (er, el, ed, ep) at w)
-
--- what is chosen is among the tracked TLCs
-pub first_within : (q : Request) (d : Dues) → length (settlement_tlcs q) ≡ length (tracked_tlcs q)
-    → StepWithin (length (tracked_tlcs q)) (length (settlement_tlcs q)) (length (pairs q)) (walked_by q (StageCase.First d))
-unfolding Reaches
-first_within q d e =
-    walked_within q.h q.for_remote q.time (settlement_tlcs q) (pairs q) (StageCase.First d) (length (tracked_tlcs q)) (λ p g. omega arith) (tracked_tlcs q) refl
+    thirds_chosen out remote local delay place er el ed ep a after w =
+        leaves_as _ _ (one_chosen q remotely locally false scaled_delay (first_place q.h) waits out walks choice key thirds_picked ∙ thirds_as out) a after (rw (er, el, ed, ep) at w)
 
 -- ---- where a TLC that stands was, and its record
 
@@ -618,6 +517,6 @@ first_built q full r = lists_equal _ _ (go (lengths_zero q.header q.current full
   where
     go : (x y z : Bool) → cond x (stops LengthZero) (cond y (cond z begins (stops_waiting WaitCase.ListDiffers)) (stops TooManyTlcs)) ≡ begins → z ≡ true
     go x y true e = refl
-    go true y false e = let z : ◌≡◌ {A = ℕ} 0 1 = cc in absurd (omega arith)
-    go false true false e = let z : ◌≡◌ {A = ℕ} 0 1 = cc in absurd (omega arith)
-    go false false false e = let z : ◌≡◌ {A = ℕ} 0 1 = cc in absurd (omega arith)
+    go true y false e = cc
+    go false true false e = cc
+    go false false false e = cc

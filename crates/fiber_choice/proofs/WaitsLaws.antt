@@ -3,13 +3,12 @@
 use Prim.Native.Nat.{ℕ, zero, suc, ◌+◌, ◌-◌, ◌≤◌, ◌<◌}
 use native.Mathlib.Omega.{arith}
 use mathlib.Core.Path.{◌≡◌, refl, sym, ap, subst, ◌∙◌}
-use mathlib.Core.Bool.{Bool, true, false, and-false, false≢true}
+use mathlib.Core.Bool.{Bool, true, false, false≢true}
 use mathlib.Core.List.{List, [], ◌∷◌}
-use mathlib.Core.Logic.{⊎_elim}
 use lib.Dec.{eqb, ltb}
 use lib.ListN.{length, get_or}
-use borrow.Author.Tests.{eq-eqb, ne_eqb, lt-ltb, le-ltb}
-use Rattle.std.specs.Prelude.{Option, Some, None}
+use borrow.Author.Tests.{lt-leb, le-leb}
+use Rattle.std.specs.Prelude.{Option, Some, None, IfSome}
 use Rattle.std.specs.declared.ops.ControlFlow.{ControlFlow}
 use Rattle.std.specs.declared.ops.ControlFlow.TheVariants.{Continue, Break}
 use Rattle.fiber_bytes.proofs.CaseLaws.{by_each, by_test₂}
@@ -132,13 +131,18 @@ abbrev pub unnoted : ControlFlow Chosen Noted → Step
 unnoted (Continue n) = pends n.pending
 unnoted (Break chosen) = Break chosen
 
--- the place that it noted, where it chooses nothing
-abbrev pub NotesAt : ℕ → ControlFlow Chosen Noted → Type 0
-NotesAt k (Continue n) = n.first ≡ k
-NotesAt k (Break chosen) = Unit {0}
+-- what holds of the place that it noted, where it chooses nothing
+abbrev pub Notes : (Option ℕ → Type 0) → ControlFlow Chosen Noted → Type 0
+Notes P (Continue n) = P n.first
+Notes P (Break chosen) = Unit {0}
+
+-- of n TLCs from a place on, the first behind k of them, or none where there are no more
+abbrev pub Behind : ℕ → ℕ → ℕ → Option ℕ → Type 0
+Behind place k n (Some first) = (k < n) × (first ≡ place + k)
+Behind place k n None = k ≡ n
 
 -- it walks as the walk does
-pub noting_walks : (time place count first : ℕ) (vs : List Verdict) → unnoted (noting time place count first vs) ≡ walk time place count vs
+pub noting_walks : (time place count : ℕ) (first : Option ℕ) (vs : List Verdict) → unnoted (noting time place count first vs) ≡ walk time place count vs
 unfolding noting walk onward_noting onward
 noting_walks time place count first [] = refl
 noting_walks time place count first (v ∷ vs) = go (step_of time place count v) (λ left. noting_walks time (place + 1) left (noted place count left first) vs)
@@ -149,37 +153,39 @@ noting_walks time place count first (v ∷ vs) = go (step_of time place count v)
     go (Break c) r = refl
 
 -- what was noted stays
-noting_behind : (time place count first : ℕ) (vs : List Verdict) → first < place → NotesAt first (noting time place count first vs)
+noting_behind : (P : Option ℕ → Type 0) (time place count first : ℕ) (vs : List Verdict) → P (Some first) → Notes P (noting time place count (Some first) vs)
 unfolding noting onward_noting noted
-noting_behind time place count first [] h = refl
-noting_behind time place count first (v ∷ vs) h = go (step_of time place count v) (λ left. noting_behind time (place + 1) left first vs (omega (arith, h)))
+noting_behind P time place count first [] p = p
+noting_behind P time place count first (v ∷ vs) p = go (step_of time place count v) (λ left. noting_behind P time (place + 1) left first vs p)
   where
-    go : (s : Step) → ((left : ℕ) → NotesAt first (noting time (place + 1) left first vs))
-        → NotesAt first (onward_noting s (λ left. noting time (place + 1) left (noted place count left first) vs))
-    go (pends left) r = rw (ne_eqb first place (λ e. omega (arith, e, h))) (r left)
+    go : (s : Step) → ((left : ℕ) → Notes P (noting time (place + 1) left (Some first) vs))
+        → Notes P (onward_noting s (λ left. noting time (place + 1) left (noted place count left (Some first)) vs))
+    go (pends left) r = r left
     go (Break c) r = tt
 
 -- Where nothing is chosen and the count suffices, it notes the first that is pending.
-pub noting_lead : (time place count : ℕ) (vs : List Verdict) → length vs ≤ count → Unchosen (walk time place count vs)
-    → NotesAt (place + lead time vs) (noting time place count place vs)
+pub noting_lead : (P : Option ℕ → Type 0) (time place count : ℕ) (vs : List Verdict) → length vs ≤ count → Unchosen (walk time place count vs)
+    → ((first : Option ℕ) → Behind place (lead time vs) (length vs) first → P first) → Notes P (noting time place count None vs)
 unfolding noting walk lead onward_noting onward noted lead_by
-noting_lead time place count [] h = λ u. omega arith
-noting_lead time place count (v ∷ vs) h = go (λ left f. noting_lead time (place + 1) left vs f) (step_of time place count v) (status_by time v) (step_counts time place count v)
+noting_lead P time place count [] h u p = p None refl
+noting_lead P time place count (v ∷ vs) h u p =
+    go (λ left f. noting_lead P time (place + 1) left vs f) (step_of time place count v) (status_by time v) (step_counts time place count v) u p
   where
+    next : (first : Option ℕ) → Behind (place + 1) (lead time vs) (length vs) first → Behind place (suc (lead time vs)) (length (v ∷ vs)) first
+    next (Some first) b = (omega (arith, b.0), omega (arith, b.1))
+    next None b = omega (arith, b)
+
     go : ((left : ℕ) → length vs ≤ left → Unchosen (walk time (place + 1) left vs)
-        → NotesAt (place + 1 + lead time vs) (noting time (place + 1) left (place + 1) vs))
+        → ((first : Option ℕ) → Behind (place + 1) (lead time vs) (length vs) first → P first) → Notes P (noting time (place + 1) left None vs))
         → (s : Step) (l : Status) → CountAs count l s → Unchosen (onward s (λ left. walk time (place + 1) left vs))
-        → NotesAt (place + lead_by l (lead time vs)) (onward_noting s (λ left. noting time (place + 1) left (noted place count left place) vs))
-    go r (pends left) (still cause) e u =
-        let z : place ≡ place + 0 = omega arith in
-        rw (le-ltb left count (omega (arith, count_one e)), and-false (eqb place place))
-        (subst (λ (k : ℕ). NotesAt k (noting time (place + 1) left place vs)) z (noting_behind time (place + 1) left place vs (omega arith)))
-    go r (pends left) gone e u =
+        → ((first : Option ℕ) → Behind place (lead_by l (lead time vs)) (length (v ∷ vs)) first → P first)
+        → Notes P (onward_noting s (λ left. noting time (place + 1) left (noted place count left None) vs))
+    go r (pends left) (still cause) e u p =
+        rw (le-leb count left (omega (arith, count_one e))) (noting_behind P time (place + 1) left place vs (p (Some place) (omega arith, omega arith)))
+    go r (pends left) gone e u p =
         let f : left ≡ count - 1 = count_one (e tt) in
-        let z : place + 1 + lead time vs ≡ place + suc (lead time vs) = omega arith in
-        rw (eq-eqb place place refl, lt-ltb left count (omega (arith, f, h)))
-        (subst (λ (k : ℕ). NotesAt k (noting time (place + 1) left (place + 1) vs)) z (r left (omega (arith, f, h)) u))
-    go r (Break c) l e u = absurd u
+        rw (lt-leb count left (omega (arith, f, h))) (r left (omega (arith, f, h)) u (λ first b. p first (next first b)))
+    go r (Break c) l e u p = absurd u
 
 -- ---- where nothing is chosen
 
@@ -296,18 +302,17 @@ pends_pair false ms key None time cause e = cause_one e
 
 -- ---- the wait, by the place that was noted
 
-module _ (h : ℕ) (for_remote : Bool) (tlcs ps : List (List ℕ)) (stage : Stage) (ts : List (List ℕ)) (time k : ℕ) (w : Wait)
-    (f : WaitsAt time (verdicts h for_remote tlcs ps stage 0 ts) k w) where
-  -- behind the last
-  pub wait_none : length ts ≤ k → WaitCase.DelayNotDue ≡ w
-  wait_none g = ⊎_elim (λ x. sym x.1) (λ x. absurd (omega (arith, g, x.1.0, verdicts_length h for_remote tlcs ps stage 0 ts))) f
-
+module _ (h : ℕ) (for_remote : Bool) (tlcs ps : List (List ℕ)) (stage : Stage) (ts : List (List ℕ)) (time : ℕ) (w : Wait) where
   -- at a TLC
-  pub wait_tlc : k < length ts → (c : Cause) → PendsFor c (verdict h for_remote tlcs ps stage k (get_or ts k [])) → WaitCase.Tlc k c ≡ w
-  wait_tlc g c p =
-      ⊎_elim (λ x. absurd (omega (arith, g, x.0, verdicts_length h for_remote tlcs ps stage 0 ts)))
-      (λ x.
-      let v : verdict h for_remote tlcs ps stage k (get_or ts k []) ≡ verdict_at (verdicts h for_remote tlcs ps stage 0 ts) k =
-      ap (λ (i : ℕ). verdict h for_remote tlcs ps stage i (get_or ts k [])) (omega arith) ∙ sym (verdicts_at h for_remote tlcs ps stage 0 ts k g) in
-      ap (WaitCase.Tlc k) (p time x.0 (ap (status_by time) v ∙ x.1.1.0)) ∙ sym x.1.1.1)
-      f
+  pub wait_tlc : (k : ℕ) → WaitsAt time (verdicts h for_remote tlcs ps stage 0 ts) (Some k) w → (c : Cause)
+      → PendsFor c (verdict h for_remote tlcs ps stage k (get_or ts k [])) → WaitCase.Tlc k c ≡ w
+  wait_tlc k f c p =
+      let v : verdict_at (verdicts h for_remote tlcs ps stage 0 ts) k ≡ verdict h for_remote tlcs ps stage k (get_or ts k []) =
+      verdicts_at h for_remote tlcs ps stage 0 ts k (omega (arith, f.1.0, verdicts_length h for_remote tlcs ps stage 0 ts))
+      ∙ ap (λ (i : ℕ). verdict h for_remote tlcs ps stage i (get_or ts k [])) (omega arith) in
+      ap (WaitCase.Tlc k) (p time f.0 (ap (status_by time) (sym v) ∙ f.1.1.0)) ∙ sym f.1.1.1
+
+  -- which is one of them
+  pub wait_place : (first : Option ℕ) → WaitsAt time (verdicts h for_remote tlcs ps stage 0 ts) first w → IfSome first (λ k. k < length ts)
+  wait_place (Some k) f = omega (arith, f.1.0, verdicts_length h for_remote tlcs ps stage 0 ts)
+  wait_place None f = tt

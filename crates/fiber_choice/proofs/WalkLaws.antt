@@ -1,16 +1,14 @@
 -- Laws of `specs/Walk.antt`: the loop over the TLCs, for both settlements, and what a walk can choose.
 -- Assumes nothing.
-use Prim.Native.Nat.{ℕ, ◌+◌, ◌-◌, ◌/◌, ◌≤◌, ◌<◌}
-use native.Mathlib.Nat.{eq-or-lt_of_le}
+use Prim.Native.Nat.{ℕ, ◌+◌, ◌-◌, ◌≤◌, ◌<◌}
 use native.Mathlib.Omega.{arith}
 use mathlib.Core.Path.{◌≡◌, refl, sym, ap, subst, ◌∙◌}
 use mathlib.Core.Bool.{Bool, true, false, cond, ◌&&◌, false≢true}
 use mathlib.Core.List.{List, [], ◌∷◌}
-use mathlib.Core.Logic.{inl, inr, ⊎_elim}
 use lib.Dec.{eqb, ltb}
 use lib.ListN.{length, get_or, drop}
 use borrow.Author.Tests.{eq-eqb, eqb-true}
-use Rattle.std.specs.Prelude.{Ok}
+use Rattle.std.specs.Prelude.{Ok, Option, Some, None}
 use Rattle.std.specs.declared.ops.ControlFlow.{ControlFlow}
 use Rattle.std.specs.declared.ops.ControlFlow.TheVariants.{Continue, Break}
 use Rattle.fiber_bytes.proofs.CaseLaws.{by_each, by_test}
@@ -29,30 +27,28 @@ use Rattle.fiber_choice.specs.Waits.{still, status_by, first_pending}
 use Rattle.fiber_choice.specs.inner.Plan.{Reaches, ReachesAll, Within, Below}
 use Rattle.fiber_choice.specs.inner.Noting.{noted, onward_noting, noting, verdict_at, WaitsAt, pick_of, unpicked}
 use Rattle.fiber_choice.specs.Promises.{KeyIn}
-use Rattle.fiber_choice.proofs.EntriesLaws.{EntryLeft, entry_left, entries_length}
+use Rattle.fiber_choice.proofs.EntriesLaws.{EntryLeft, entry_left}
 use Rattle.fiber_choice.proofs.VerdictsLaws.{VerdictWithin, verdict_within}
-use Rattle.fiber_choice.proofs.WaitsLaws.{lead, Unchosen, count_one, still_pends, gone_falls, Leads, leads, unnoted, NotesAt, noting_walks, noting_lead, walk_unchosen, walk_falls, verdicts_length, verdicts_at, share_stays}
+use Rattle.fiber_choice.proofs.WaitsLaws.{lead, Unchosen, count_one, still_pends, gone_falls, Leads, leads, unnoted, Notes, Behind, noting_walks, noting_lead, walk_unchosen, walk_falls, verdicts_length, verdicts_at, share_stays}
 
 -- ---- the loop
 
 module _ (h : ℕ) (for_remote : Bool) (time : ℕ) (tlcs ps : List (List ℕ)) (stage : Stage) where
   -- the walk over tracked TLCs, from a place on with so many pending, as the code notes the first that is
-  abbrev pub note_from : ℕ → ℕ → ℕ → List (List ℕ) → ControlFlow Chosen Noted
+  abbrev pub note_from : ℕ → ℕ → Option ℕ → List (List ℕ) → ControlFlow Chosen Noted
   note_from place pending first ts = noting time place pending first (verdicts h for_remote tlcs ps stage place ts)
 
   -- At a place, with the tracked TLCs that are left: to walk on from here gives what the whole walk gives.
-  pub record Walking (size : ℕ) (s : List ℕ) (whole : ControlFlow Chosen Noted) (pending first : ℕ) (es : List (List ℕ)) (place : ℕ) : Type 0 where
+  pub record Walking (size : ℕ) (s : List ℕ) (whole : ControlFlow Chosen Noted) (pending : ℕ) (first : Option ℕ) (es : List (List ℕ)) (place : ℕ) : Type 0 where
     pub left : es ≡ drop place (entries size s)
     pub rest : note_from place pending first es ≡ whole
 
   -- before the first, all are pending
-  pub walking_start : (size size' : ℕ) (s : List ℕ) (es : List (List ℕ)) → size ≡ size' → es ≡ entries size' s
-      → Walking size' s (note_from 0 (length (entries size' s)) 0 (entries size' s)) (length s / size) 0 es 0
-  walking_start size size' s es e f =
-      let n : length s / size ≡ length (entries size' s) = ap (λ (k : ℕ). length s / k) e ∙ sym (entries_length size' s) in
-      record { left = f; rest = rw (n, f) }
+  pub walking_start : (size : ℕ) (s : List ℕ) (es : List (List ℕ)) (n : ℕ) → n ≡ length (entries size s) → es ≡ entries size s
+      → Walking size s (note_from 0 (length (entries size s)) None (entries size s)) n None es 0
+  walking_start size s es n e f = record { left = f; rest = rw (e, f) }
 
-  module _ (size : ℕ) (s : List ℕ) (whole : ControlFlow Chosen Noted) (pending first : ℕ) (es : List (List ℕ)) (place : ℕ)
+  module _ (size : ℕ) (s : List ℕ) (whole : ControlFlow Chosen Noted) (pending : ℕ) (first : Option ℕ) (es : List (List ℕ)) (place : ℕ)
       (c : Walking size s whole pending first es place) where
     -- none was chosen
     pub walking_end : es ≡ [] → Continue (record { pending = pending; first = first }) ≡ whole
@@ -71,7 +67,7 @@ module _ (h : ℕ) (for_remote : Bool) (time : ℕ) (tlcs ps : List (List ℕ)) 
         walking_chosen chosen k = rw (e, sym f ∙ k) at c.rest
 
         -- on to the next
-        pub walking_on : (left next : ℕ) → w ≡ pends left → next ≡ noted place pending left first → Walking size s whole left next ts (place + 1)
+        pub walking_on : (left : ℕ) (next : Option ℕ) → w ≡ pends left → next ≡ noted place pending left first → Walking size s whole left next ts (place + 1)
         unfolding noting verdicts onward_noting
         walking_on left next k n = record { left = walking_at.rest; rest = rw n (rw (e, sym f ∙ k) at c.rest) }
 
@@ -238,13 +234,13 @@ module _ (h : ℕ) (for_remote : Bool) (time : ℕ) (tlcs ps : List (List ℕ)) 
 -- ---- as the code puts them together
 
 module _ (h : ℕ) (for_remote : Bool) (time : ℕ) (tlcs ps : List (List ℕ)) (stage : Stage) (ts : List (List ℕ)) (found : ControlFlow Chosen Noted)
-    (e : found ≡ note_from h for_remote time tlcs ps stage 0 (length ts) 0 ts) where
+    (e : found ≡ note_from h for_remote time tlcs ps stage 0 (length ts) None ts) where
   abbrev wait_for : Wait
   wait_for = first_pending time 0 (verdicts h for_remote tlcs ps stage 0 ts)
 
   -- what was found, without what it noted, is the walk
   walks_as : unnoted found ≡ walk time 0 (length ts) (verdicts h for_remote tlcs ps stage 0 ts)
-  walks_as = ap unnoted e ∙ noting_walks time 0 (length ts) 0 (verdicts h for_remote tlcs ps stage 0 ts)
+  walks_as = ap unnoted e ∙ noting_walks time 0 (length ts) None (verdicts h for_remote tlcs ps stage 0 ts)
 
   -- one was chosen
   pub picked_chosen : (chosen : Chosen) → found ≡ Break chosen → Ok chosen ≡ pick_of (walked h for_remote time tlcs ps stage ts) wait_for
@@ -274,7 +270,9 @@ module _ (h : ℕ) (for_remote : Bool) (time : ℕ) (tlcs ps : List (List ℕ)) 
 
     -- the place that was noted is that of the wait
     pub picked_place : WaitsAt time (verdicts h for_remote tlcs ps stage 0 ts) n.first wait_for
-    picked_place = go (lead time us) first.low first.none first.some k
+    picked_place =
+        subst (Notes (λ k. WaitsAt time us k wait_for)) (sym e ∙ f)
+        (noting_lead (λ k. WaitsAt time us k wait_for) time 0 (length ts) us (omega (arith, verdicts_length h for_remote tlcs ps stage 0 ts)) (subst Unchosen (sym u) tt) go)
       where
         us : List Verdict
         us = verdicts h for_remote tlcs ps stage 0 ts
@@ -285,16 +283,9 @@ module _ (h : ℕ) (for_remote : Bool) (time : ℕ) (tlcs ps : List (List ℕ)) 
         u : walk time 0 (length ts) us ≡ pends n.pending
         u = sym walks_as ∙ ap unnoted f
 
-        k : n.first ≡ lead time us
-        k =
-            subst (NotesAt (0 + lead time us)) (sym e ∙ f)
-            (noting_lead time 0 (length ts) us (omega (arith, verdicts_length h for_remote tlcs ps stage 0 ts)) (subst Unchosen (sym u) tt))
-            ∙ omega arith
-
-        go : (k : ℕ) → k ≤ length us → (k ≡ length us → wait_for ≡ WaitCase.DelayNotDue)
-            → (k < length us → (cause : Cause) × ((status_by time (verdict_at us k) ≡ still cause) × (wait_for ≡ WaitCase.Tlc (0 + k) cause))) → n.first ≡ k
-            → WaitsAt time us n.first wait_for
-        go k low none some p =
-            ⊎_elim (λ x. inl (p ∙ x, none x))
-            (λ x. inr ((some x).0, (omega (arith, p, x), (rw p (some x).1.0, (some x).1.1 ∙ ap (λ (i : ℕ). WaitCase.Tlc i (some x).0) (omega (arith, p))))))
-            (eq-or-lt_of_le low)
+        go : (k : Option ℕ) → Behind 0 (lead time us) (length us) k → WaitsAt time us k wait_for
+        go (Some k) b =
+            let s = first.some b.0 in
+            let z : k ≡ lead time us = omega (arith, b.1) in
+            (s.0, (omega (arith, b.0, z), (rw z s.1.0, s.1.1 ∙ ap (λ (i : ℕ). WaitCase.Tlc i s.0) (omega (arith, z)))))
+        go None b = first.none b

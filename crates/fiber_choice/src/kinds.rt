@@ -1,17 +1,33 @@
 // The types of the choice, below all that uses them: what may be chosen, why nothing is, and what the walk and the output pass on.
 ghost use Rattle.std.specs.Prelude.{◌≡◌};
+ghost use Rattle.fiber_choice.specs.declared.kinds.Choice.TheVariants as ChoiceCase;
 ghost use Rattle.fiber_choice.specs.declared.kinds.NoChoice.TheVariants as NoChoiceCase;
+ghost use Rattle.fiber_choice.specs.HandedOut.{choice_byte};
 
 use fiber_refusal::Refusal;
 use fiber_types::epoch::Epoch;
+use fiber_types::layout::{UNLOCK_LOCAL, UNLOCK_REMOTE};
 use fiber_types::tlc::Amount;
 use fiber_witness::shares::UnlockedShares;
 
-// A share of one side: the unlock byte is 0xFE for the remote one, 0xFF for the local one.
+// Whose a share is.
 #[derive(Clone, Copy, Debug, PartialEq, Eq)]
 pub enum Side {
     Remote,
     Local,
+}
+
+impl Side {
+    // The byte of the unlock of its share.
+    #[tactic(auto, unfolding(crate::specs::HandedOut::choice_byte))]
+    pub fn byte(self) -> u8
+        ensures { result ≡ choice_byte (ChoiceCase.Share self) }
+    {
+        match self {
+            Side::Remote => UNLOCK_REMOTE as u8,
+            Side::Local => UNLOCK_LOCAL as u8,
+        }
+    }
 }
 
 // How a TLC is taken.
@@ -113,12 +129,12 @@ pub struct Chosen {
     pub key: Key,
 }
 
-// A walk that chooses nothing: how many TLCs it leaves pending, and the first place at which the count stayed; all TLCs before it fell. Behind the last
-// TLC, where it fell for each, there is none to wait for: then the wait is for the delay.
+// A walk that chooses nothing: how many TLCs it leaves pending, and the first place at which the count stayed. Where it fell for each TLC there is none to
+// wait for: then the wait is for the delay.
 #[derive(Clone, Copy)]
 pub struct Noted {
     pub pending: usize,
-    pub first: usize,
+    pub first: Option<usize>,
 }
 
 // What is decided: the choice, its amount, key and delay; the lengths of the three parts of the output; place and length of
@@ -133,7 +149,7 @@ pub struct Decision {
     pub unlock_len: usize,
     pub state_len: usize,
     pub args_len: usize,
-    // both 0 where a share is chosen: over C they are numbers
+    // both 0 where a share is chosen, whose record is the empty part: `record_of` cuts by them without a case
     pub place: usize,
     pub len: usize,
     pub last: bool,

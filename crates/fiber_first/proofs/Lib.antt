@@ -1,1 +1,2 @@
--- none
+-- Laws of the definitions, which proofs cite.
+pub mod LeftLaws

@@ -1,23 +1,24 @@
-// The records and shares that a commitment starts with, built from what the host lends. The length of hashes and the sides go in front of each, as they do
-// in what C calls.
+// The records and shares that a commitment starts with, built from what the host lends. The length of hashes and the sides go in front of each, and in no
+// struct: the face takes them so, and a struct of the two would be made at each call.
 ghost use Rattle.std.specs.Prelude.{◌≡◌, true, cond, ◌+◌, ◌≤◌, length, replicate};
 ghost use mathlib.Core.List.{flatten};
 ghost use Rattle.std.proofs.lemmas.List.Edits.{sets};
-ghost use Rattle.fiber_choice.specs.Entries.{entries, all, valid_settlement, settlement_len, tracked_len, tracked_records, same_lists};
+ghost use Rattle.fiber_choice.specs.Entries.{entries, all, valid_settlement, settlement_len, tracked_len, tracked_record, tracked_records, same, same_lists};
 ghost use Rattle.fiber_choice.specs.Request.{data_of};
 ghost use Rattle.fiber_choice.specs.FirstRecords as S;
 
 use crate::lent::{settlement_tlcs, tracked_tlcs};
-use fiber_bytes::{le64, part_of, put, put_le64};
+use fiber_bytes::put;
+use fiber_choice::checked::Checked;
 use fiber_choice::request::SettlementData;
+use fiber_choice::settlement::SettlementTlc;
 use fiber_types::blake2b::ckb_hash;
 use fiber_types::hash_len::HashLen;
 use fiber_types::layout::{
-    KEY, KEY_HASH, SETTLEMENT_TLC_AMOUNT, SETTLEMENT_TLC_EXPIRY, SETTLEMENT_TLC_HASH,
-    SETTLEMENT_TLC_LOCAL_KEY, SETTLEMENT_TLC_REMOTE_KEY, SHARE_AMOUNT, SHARE_LEN, TRACKED_RECORD,
+    KEY, KEY_HASH, SETTLEMENT_TLC, SETTLEMENT_TLC_AMOUNT, SHARE_AMOUNT, SHARE_LEN, TRACKED_RECORD,
 };
 use fiber_types::tlc;
-use fiber_types::tlc::{Amount, Tlc, amount_at};
+use fiber_types::tlc::{Amount, Tlc, amount_at, put_amount};
 
 // The bytes of the longest record, whose hash has 32.
 const LONGEST_RECORD: usize = 97;
@@ -35,21 +36,21 @@ pub fn hash_of(key: &[u8]) -> [u8; KEY_HASH]
     hash
 }
 
-// The record of a settlement TLC of 124 bytes, to the front of a buffer that has room for it. The buffer is lent, so that the record
+// The record of a settlement TLC, to the front of a buffer that has room for it. The buffer is lent, so that the record
 // is not copied out of one.
 #[tactic(auto, unfolding(fiber_choice::specs::Entries::valid_settlement))]
-pub fn put_first(h: HashLen, for_remote: bool, tlc: &[u8], buffer: &mut [u8])
-    requires { (valid_settlement tlc.now ≡ true) × ((length tlc.now ≡ 124) × (65 + h.bytes ≤ length buffer.old)) }
-    ensures { buffer.new ≡ sets buffer.old 0 (S.first_record h.bytes for_remote tlc.now) }
+pub fn put_first(h: HashLen, for_remote: bool, tlc: &SettlementTlc<'_>, buffer: &mut [u8])
+    requires { (valid_settlement tlc.now.bytes.now ≡ true) × (65 + h.bytes ≤ length buffer.old) }
+    ensures { buffer.new ≡ sets buffer.old 0 (S.first_record h.bytes for_remote tlc.now.bytes.now) }
 {
     let numbers = Tlc {
-        kind: tlc[1] * 2 + tlc[0],
-        amount: amount_at(tlc, SETTLEMENT_TLC_AMOUNT),
-        expiry: 0x4000_0000_0000_0000 + le64(tlc, SETTLEMENT_TLC_EXPIRY) / 1000,
+        kind: tlc.bytes[1] * 2 + tlc.bytes[0],
+        amount: amount_at(tlc.bytes, SETTLEMENT_TLC_AMOUNT),
+        expiry: 0x4000_0000_0000_0000 + tlc.expiry_ms() / 1000,
     };
-    let hash = part_of(tlc, SETTLEMENT_TLC_HASH, h.bytes);
-    let local = hash_of(part_of(tlc, SETTLEMENT_TLC_LOCAL_KEY, KEY));
-    let remote = hash_of(part_of(tlc, SETTLEMENT_TLC_REMOTE_KEY, KEY));
+    let hash = &tlc.hash()[..h.bytes];
+    let local = hash_of(tlc.local_key());
+    let remote = hash_of(tlc.remote_key());
     // The hash and the key hashes have their lengths, and the buffer has room, so that the record is written.
     let _ = if for_remote {
         tlc::write(numbers, hash, &remote, &local, buffer)
@@ -58,25 +59,30 @@ pub fn put_first(h: HashLen, for_remote: bool, tlc: &[u8], buffer: &mut [u8])
     };
 }
 
-// Whether the records of the settlement TLCs are those of the tracked list, one for one.
-pub fn same_as_tracked(h: HashLen, for_remote: bool, tlcs: &[u8], tracked: &[u8]) -> bool
-    requires { all valid_settlement (entries settlement_len tlcs.now) ≡ true }
-    ensures { result ≡ same_lists (S.first_records h.bytes for_remote (entries settlement_len tlcs.now))
-        (tracked_records (entries (tracked_len h.bytes) tracked.now)) }
+// Whether the record of a settlement TLC is that of a tracked one.
+#[tactic(auto, using(fiber_choice::proofs::FirstRecordsLaws::first_back, fiber_choice::proofs::EntriesLaws::record_rest))]
+fn is_record_of(h: HashLen, for_remote: bool, tlc: &[u8], tracked: &[u8]) -> bool
+    requires well { (valid_settlement tlc.now ≡ true) × (length tlc.now ≡ 124) }
+    requires whole { length tracked.now ≡ 98 + h.bytes }
+    ensures { result ≡ same (S.first_record h.bytes for_remote tlc.now) (tracked_record tracked.now) }
 {
-    let size = h.record_len();
-    let mut others = tracked_tlcs(h, tracked);
-    for tlc in settlement_tlcs(tlcs) {
-        let Some(other) = others.next() else {
-            return false;
-        };
-        let mut record = [0; LONGEST_RECORD];
-        put_first(h, for_remote, tlc, &mut record);
-        if record[..size] != other[TRACKED_RECORD..] {
-            return false;
-        }
-    }
-    others.next().is_none()
+    let mut record = [0; LONGEST_RECORD];
+    put_first(h, for_remote, &SettlementTlc { bytes: tlc }, &mut record);
+    record[..h.record_len()] == tracked[TRACKED_RECORD..]
+}
+
+// Whether the records of the settlement TLCs are those of the tracked list, one for one.
+pub fn same_as_tracked(q: &Checked<'_>) -> bool
+    ensures { result ≡ same_lists (S.first_records q.now.h.bytes q.now.for_remote (entries settlement_len q.now.settlement.tlcs.now))
+        (tracked_records (entries (tracked_len q.now.h.bytes) q.now.tracked.now)) }
+{
+    let h = q.h;
+    let for_remote = q.for_remote;
+    let tlcs = q.settlement.tlcs;
+    tlcs.len() / SETTLEMENT_TLC == q.tracked_count()
+        && settlement_tlcs(tlcs)
+            .zip(tracked_tlcs(h, q.tracked))
+            .all(|(tlc, tracked)| is_record_of(h, for_remote, tlc, tracked))
 }
 
 // A share: key hash 20, amount 16.
@@ -85,12 +91,11 @@ fn share_of(key: &[u8], amount: Amount) -> [u8; SHARE_LEN]
 {
     let mut share = [0; SHARE_LEN];
     put(&mut share, 0, &hash_of(key));
-    put_le64(&mut share, SHARE_AMOUNT, amount.low);
-    put_le64(&mut share, SHARE_AMOUNT + 8, amount.high);
+    put_amount(&mut share, SHARE_AMOUNT, amount);
     share
 }
 
-// Both shares, as they are built.
+// Both shares, as they are built. Arrays, where `Shares` of fiber_witness lends: here they live.
 #[derive(Clone, Copy)]
 pub struct BuiltShares {
     pub remote: [u8; SHARE_LEN],
@@ -122,9 +127,10 @@ pub fn put_first_tlcs(h: HashLen, for_remote: bool, tlcs: &[u8], out: &mut [u8])
     ensures { out.new ≡ sets out.old 1 (flatten (S.first_records h.bytes for_remote (entries settlement_len tlcs.now))) }
 {
     let size = h.record_len();
+    // By place: of parts that an adapter lends, as `zip` over `chunks_exact_mut`, the library does not say what was written into them.
     let mut at = 1;
     for tlc in settlement_tlcs(tlcs) {
-        put_first(h, for_remote, tlc, &mut out[at..]);
+        put_first(h, for_remote, &SettlementTlc { bytes: tlc }, &mut out[at..]);
         at += size;
     }
 }

@@ -1,7 +1,8 @@
 // The lists that the host lends, one entry behind the other, as iterators.
 ghost use Rattle.std.specs.Prelude.{◌≡◌, ◌<◌};
 
-// The whole entries of a list, from the front on.
+// The whole entries of a list, from the front on. No `chunks_exact`: what is left of it is the library's rest of bytes, and here it is `entries`, by which
+// the definitions read (docs/DECISIONS.md, 103).
 #[derive(Clone, Copy)]
 pub struct Entries<'a> {
     pub rest: &'a [u8],

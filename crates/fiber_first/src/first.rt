@@ -7,6 +7,7 @@ use crate::built::{first_shares, put_first, put_first_tlcs};
 use crate::lent::{is_valid_settlement, valid_data};
 use fiber_bytes::put;
 use fiber_choice::request::SettlementData;
+use fiber_choice::settlement::SettlementTlc;
 use fiber_refusal::Refusal;
 use fiber_types::hash_len::HashLen;
 use fiber_types::layout::{SETTLEMENT_TLC, SHARE_LEN, SHARES, STATE_FIXED};
@@ -29,7 +30,7 @@ pub fn settlement_tlc_witness(
     if out.len() < size {
         return Err(Refusal::OutputShort(size));
     }
-    put_first(h, for_remote, tlc, out);
+    put_first(h, for_remote, &SettlementTlc { bytes: tlc }, out);
     Ok(size)
 }
 

@@ -9,6 +9,7 @@ use fiber_choice::request::SettlementData;
 use fiber_types::hash_len::HashLen;
 use fiber_types::layout::{KEY, PAIR, SETTLEMENT_TLC, TRACKED_ALGORITHM};
 
+// Three lists of one type: what differs is how long an entry is, a constant or by the channel's hashes, which `Entries` holds as a number.
 pub fn settlement_tlcs(tlcs: &[u8]) -> Entries<'_>
     ensures { left result ≡ S.entries S.settlement_len tlcs.now }
 {

@@ -8,20 +8,21 @@ ghost use Rattle.fiber_witness.specs.Witness.{state_bytes};
 ghost use Rattle.fiber_witness.specs.Update.{keep};
 ghost use Rattle.fiber_witness.specs.inner.Marks.{listed};
 ghost use Rattle.fiber_witness.specs.inner.Strided.{Fronts};
-ghost use Rattle.fiber_choice.specs.Entries.{entries, tracked_len, tracked_records, pair_len};
+ghost use Rattle.fiber_choice.specs.Entries.{entries, tracked_records, pair_len};
 ghost use Rattle.fiber_choice.specs.HandedOut as S;
+ghost use Rattle.fiber_choice.specs.Request.{tracked_tlcs, pairs};
 ghost use Rattle.fiber_choice.specs.inner.Plan.{plan_of, PairWhole, plan_after, plan_unlock, joined, Below, Within};
+ghost use Rattle.fiber_choice.specs.inner.Request.{request_by};
 
 use crate::lent::Lent;
 use fiber_bytes::{part_of, put};
 use fiber_choice::kinds::{Choice, Chosen, Decision, NoChoice, Plan, Side, Way};
+use fiber_choice::pair::pair_preimage;
 use fiber_refusal::Refusal;
 use fiber_types::blake2b::ckb_hash;
 use fiber_types::epoch::Epoch;
 use fiber_types::hash_len::HashLen;
-use fiber_types::layout::{
-    PAIR, PAIR_PREIMAGE, SHARE_AMOUNT, STATE_FIXED, TRACKED_RECORD, UNLOCK_LOCAL, UNLOCK_REMOTE,
-};
+use fiber_types::layout::{SHARE_AMOUNT, STATE_FIXED, TRACKED_RECORD};
 use fiber_types::tlc::{Amount, amount_at};
 use fiber_types::unlock;
 use fiber_types::unlock::Unlock;
@@ -30,29 +31,20 @@ use fiber_witness::records::Records;
 use fiber_witness::shares::{Shares, UnlockedShares};
 use fiber_witness::state::put_state;
 
-// A share's unlock settles no TLC, and a TLC's takes no share.
+// A share's unlock settles no TLC, and a TLC's takes no share. Its place is asked: which places there are a list says, so that no type of `Choice` does.
 #[tactic(auto, unfolding(fiber_choice::specs::inner::Plan::plan_of, fiber_choice::specs::inner::Plan::Below, fiber_choice::specs::HandedOut::choice_byte))]
 fn plan_of(choice: Choice) -> Plan
     requires { Below 255 choice }
     ensures { result ≡ plan_of choice }
 {
     match choice {
-        Choice::Share(Side::Remote) => Plan {
-            byte: UNLOCK_REMOTE as u8,
+        Choice::Share(side) => Plan {
+            byte: side.byte(),
             pair: None,
             settled: None,
             unlocked: UnlockedShares {
-                remote: true,
-                local: false,
-            },
-        },
-        Choice::Share(Side::Local) => Plan {
-            byte: UNLOCK_LOCAL as u8,
-            pair: None,
-            settled: None,
-            unlocked: UnlockedShares {
-                remote: false,
-                local: true,
+                remote: side == Side::Remote,
+                local: side == Side::Local,
             },
         },
         Choice::Tlc { place, way } => Plan {
@@ -70,33 +62,27 @@ fn plan_of(choice: Choice) -> Plan
     }
 }
 
-// How many TLCs are tracked.
-#[tactic(auto, using(fiber_choice::proofs::EntriesLaws::tracked_count))]
-fn tracked_count(lent: &Lent<'_, '_>) -> usize
-    ensures { result ≡ length (entries (tracked_len lent.now.h.bytes) lent.now.tracked.now) }
-{
-    lent.tracked.len() / lent.h.tracked_len()
-}
-
-// Writes the state of the tracked TLCs, but for one that is settled, and of shares, to the front of out; answers its length.
+// Writes the state of the tracked TLCs, but for one that is settled, and of shares, to the front of out; answers its length. The room is asked, as in
+// `put_state`.
 fn put_tracked(
     lent: &Lent<'_, '_>,
     settled: Option<u8>,
     shares: &Shares<'_>,
     out: &mut [u8],
 ) -> usize
-    requires { 73 + length (flatten (keep (listed settled) 0 (tracked_records (entries (tracked_len lent.now.h.bytes) lent.now.tracked.now)))) ≤ length out.old }
-    ensures { Fronts (state_bytes (keep (listed settled) 0 (tracked_records (entries (tracked_len lent.now.h.bytes) lent.now.tracked.now)))
+    requires { 73 + length (flatten (keep (listed settled) 0 (tracked_records (tracked_tlcs (request_by lent.now.q.now))))) ≤ length out.old }
+    ensures { Fronts (state_bytes (keep (listed settled) 0 (tracked_records (tracked_tlcs (request_by lent.now.q.now))))
         shares.now.remote.now shares.now.local.now) out.old result out.new }
 {
     let mut all = UNMARKED;
     mark(settled, &mut all);
-    let marks = &all[..tracked_count(lent)];
+    let q = lent.q;
+    let marks = &all[..q.tracked_count()];
     let records = Records {
-        source: lent.tracked,
+        source: q.tracked,
         from: TRACKED_RECORD,
-        stride: lent.h.tracked_len(),
-        h: lent.h,
+        stride: q.h.tracked_len(),
+        h: q.h,
         marks,
         standing: count_standing(marks),
     };
@@ -104,13 +90,13 @@ fn put_tracked(
 }
 
 // Writes the state after the unlock to the front of out, and answers its CKB hash. The state before it, which is no shorter, is
-// written over it afterwards.
+// written over it afterwards, so that the room is asked for that one.
 #[tactic(auto, using(fiber_choice::proofs::HandedLaws::keep_small, fiber_witness::proofs::WitnessLaws::state_size, fiber_choice::proofs::HandedLaws::front_back), unfolding(fiber_choice::specs::inner::Plan::plan_after))]
 fn hash_after(lent: &Lent<'_, '_>, p: Plan, out: &mut [u8]) -> [u8; 32]
-    requires { 73 + length (flatten (tracked_records (entries (tracked_len lent.now.h.bytes) lent.now.tracked.now))) ≤ length out.old }
-    ensures value { result ≡ ckb_hash (plan_after (tracked_records (entries (tracked_len lent.now.h.bytes) lent.now.tracked.now))
+    requires { 73 + length (flatten (tracked_records (tracked_tlcs (request_by lent.now.q.now)))) ≤ length out.old }
+    ensures value { result ≡ ckb_hash (plan_after (tracked_records (tracked_tlcs (request_by lent.now.q.now)))
         lent.now.shares.remote.now lent.now.shares.local.now p) }
-    ensures out_after { out.new ≡ sets out.old 0 (plan_after (tracked_records (entries (tracked_len lent.now.h.bytes) lent.now.tracked.now))
+    ensures out_after { out.new ≡ sets out.old 0 (plan_after (tracked_records (tracked_tlcs (request_by lent.now.q.now)))
         lent.now.shares.remote.now lent.now.shares.local.now p) }
 {
     let shares = lent.shares.left(p.unlocked);
@@ -139,8 +125,7 @@ fn put_unlock(preimages: &[u8], p: Plan, out: &mut [u8])
     // Both parts have their lengths, and the output has room, so that the unlock is written.
     let _ = match p.pair {
         Some(pair_place) => {
-            let preimage = part_of(preimages, PAIR * pair_place + PAIR_PREIMAGE, 32);
-            unlock::write(u, &signature, preimage, out)
+            unlock::write(u, &signature, pair_preimage(preimages, pair_place), out)
         }
         None => unlock::write(u, &signature, &[], out),
     };
@@ -169,32 +154,34 @@ fn new_args_len(args: &[u8]) -> usize
 // The three parts, joined, in an output that has room for them.
 #[tactic(auto, using(fiber_choice::proofs::HandedLaws::joined_size, fiber_choice::proofs::HandedLaws::keep_listed, fiber_witness::proofs::WitnessLaws::state_size))]
 fn put_joined(lent: &Lent<'_, '_>, p: Plan, out: &mut [u8])
-    requires pair_whole { PairWhole lent.now.preimages.now p.pair }
-    requires p_in_bounds { length (joined lent.now.args.now (entries (tracked_len lent.now.h.bytes) lent.now.tracked.now)
-        (entries pair_len lent.now.preimages.now) lent.now.shares.remote.now lent.now.shares.local.now p) ≤ length out.old }
-    ensures { out.new ≡ sets out.old 0 (joined lent.now.args.now (entries (tracked_len lent.now.h.bytes) lent.now.tracked.now)
-        (entries pair_len lent.now.preimages.now) lent.now.shares.remote.now lent.now.shares.local.now p) }
+    requires pair_whole { PairWhole lent.now.q.now.preimages.now p.pair }
+    requires p_in_bounds { length (joined lent.now.q.now.args.now (tracked_tlcs (request_by lent.now.q.now))
+        (pairs (request_by lent.now.q.now)) lent.now.shares.remote.now lent.now.shares.local.now p) ≤ length out.old }
+    ensures { out.new ≡ sets out.old 0 (joined lent.now.q.now.args.now (tracked_tlcs (request_by lent.now.q.now))
+        (pairs (request_by lent.now.q.now)) lent.now.shares.remote.now lent.now.shares.local.now p) }
 {
+    let q = lent.q;
     let at = unlock_of(p).witness_len();
-    put_unlock(lent.preimages, p, out);
+    put_unlock(q.preimages, p, out);
     let hash = hash_after(lent, p, &mut out[at..]);
     let size = put_tracked(lent, None, &lent.shares, &mut out[at..]);
-    put_args(lent.args, &hash, out, at + size);
+    put_args(q.args, &hash, out, at + size);
 }
 
-// The amount of a share, or of the TLC at a place, behind the type in its record.
+// The amount of a share, or of the TLC at a place, behind the type in its record. The place is asked, as in `plan_of`.
 #[tactic(auto, using(fiber_choice::proofs::HandedLaws::tracked_room, fiber_choice::proofs::HandedLaws::tracked_amount), unfolding(fiber_choice::specs::HandedOut::choice_amount, fiber_choice::specs::inner::Plan::Below))]
 fn amount_of(lent: &Lent<'_, '_>, choice: Choice) -> Amount
-    requires { Below (length (entries (tracked_len lent.now.h.bytes) lent.now.tracked.now)) choice }
-    ensures { result ≡ S.choice_amount (tracked_records (entries (tracked_len lent.now.h.bytes) lent.now.tracked.now))
+    requires { Below (length (tracked_tlcs (request_by lent.now.q.now))) choice }
+    ensures { result ≡ S.choice_amount (tracked_records (tracked_tlcs (request_by lent.now.q.now)))
         lent.now.shares.remote.now lent.now.shares.local.now choice }
 {
     match choice {
         Choice::Share(Side::Remote) => amount_at(lent.shares.remote, SHARE_AMOUNT),
         Choice::Share(Side::Local) => amount_at(lent.shares.local, SHARE_AMOUNT),
         Choice::Tlc { place, way: _ } => {
-            let record = place * lent.h.tracked_len() + TRACKED_RECORD;
-            amount_at(lent.tracked, record + 1)
+            let q = lent.q;
+            let record = place * q.h.tracked_len() + TRACKED_RECORD;
+            amount_at(q.tracked, record + 1)
         }
     }
 }
@@ -219,16 +206,17 @@ pub fn write_output(
     place: usize,
     out: &mut [u8],
 ) -> Result<Decision, NoChoice>
-    requires { Within (length (entries (tracked_len lent.now.h.bytes) lent.now.tracked.now)) (length (entries pair_len lent.now.preimages.now)) chosen.choice }
-    ensures { Gives (S.handed_out lent.now.h.bytes lent.now.args.now (entries (tracked_len lent.now.h.bytes) lent.now.tracked.now)
-        (entries pair_len lent.now.preimages.now) lent.now.shares.remote.now lent.now.shares.local.now lent.now.last chosen.choice chosen.key delay place out.old)
+    requires { Within (length (tracked_tlcs (request_by lent.now.q.now))) (length (pairs (request_by lent.now.q.now))) chosen.choice }
+    ensures { Gives (S.handed_out lent.now.q.now.h.bytes lent.now.q.now.args.now (tracked_tlcs (request_by lent.now.q.now))
+        (pairs (request_by lent.now.q.now)) lent.now.shares.remote.now lent.now.shares.local.now lent.now.last chosen.choice chosen.key delay place out.old)
         result out.new }
 {
-    let n = tracked_count(lent);
+    let q = lent.q;
+    let n = q.tracked_count();
     let p = plan_of(chosen.choice);
     let unlock_len = unlock_of(p).witness_len();
-    let state_len = STATE_FIXED + n * lent.h.record_len();
-    let args_len = new_args_len(lent.args);
+    let state_len = STATE_FIXED + n * q.h.record_len();
+    let args_len = new_args_len(q.args);
     let size = unlock_len + state_len + args_len;
     if out.len() < size {
         return Err(NoChoice::Refused(Refusal::OutputShort(size)));
@@ -243,7 +231,7 @@ pub fn write_output(
         state_len,
         args_len,
         place,
-        len: record_size(lent.h, chosen.choice),
+        len: record_size(q.h, chosen.choice),
         last: lent.last,
     })
 }

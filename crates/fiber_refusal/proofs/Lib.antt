@@ -1,1 +1,2 @@
--- No law: callers cite the definitions' numbers by computing.
+-- Of the definitions there is no law: callers cite their numbers by computing.
+pub mod PassedLaws

@@ -1,4 +1,4 @@
--- What the proofs of `sha256` cite: sums that wrap, a turn of each loop, a block read in the message or in its padded end, and bytes written.
+-- What the proofs of `sha256` cite: rotations joined, sums that wrap, a turn of each loop, a block read in the message or in its padded end, and bytes written.
 -- Assumes nothing.
 use Rattle.std.proofs.Common.{◌≡◌, ℕ, zero, suc, ◌+◌, ◌-◌, ◌*◌, ◌/◌, ◌%◌, ◌^◌, ◌<◌, ◌≤◌, List, [], ◌∷◌, ◌++◌, length, get_or, take, drop, set, replicate, sym, refl, ap, ◌∙◌, ap₂, append_assoc, append-nil, suc-add, zero-add, add-one, arith, length-append, length-drop, take_all, drop-cons, get_or-set_other, drop-drop}
 use mathlib.Core.List.{flat_map}
@@ -8,9 +8,28 @@ use Rattle.fiber_bytes.specs.Bytes.{part, be, be_bytes}
 use Rattle.std.specs.Int.{w32, w64, to_be_bytes}
 use native.Mathlib.Nat.{div-div-eq-div-mul}
 use Rattle.std.proofs.Common.{subst, min}
+use lib.Bits.{bit_or, bit_xor}
+use Rattle.fiber_bytes.specs.Words.{rotated}
+use Rattle.fiber_bytes.proofs.WordsLaws.{rotated_right}
 use Rattle.fiber_bytes.proofs.ArraysLaws.{written}
-use Rattle.fiber_bytes.proofs.BytesLaws.{take_within, each_end}
+use Rattle.fiber_bytes.proofs.BytesLaws.{take_within}
 use Rattle.fiber_sha256.specs.Sha256.{constants, ch, maj, sum0, sum1, sig0, sig1, padded, loaded, extended, t1, t2, turned, turns, folded, compressed, absorbed, sha256}
+
+-- what `x.rotate_right(k)` gives
+abbrev pub right : ℕ → ℕ → ℕ
+right k x = bit_or (x / 2 ^ (k % 32)) (x * 2 ^ ((32 - k % 32) % 32) % 2 ^ 32)
+
+-- two rotations of a word, joined, with anything beside them; and three
+pub rotated_two : (x a b y r s : ℕ) → x < 2 ^ 32 → 0 < a → a < 32 → 0 < b → b < 32 → r ≡ right a x → s ≡ right b x
+    → bit_xor (bit_xor r s) y ≡ bit_xor (bit_xor (rotated 32 a x) (rotated 32 b x)) y
+rotated_two x a b y r s l za la zb lb e f =
+    ap (λ (z : ℕ). bit_xor z y) (ap₂ bit_xor (e ∙ rotated_right 32 x a l za la) (f ∙ rotated_right 32 x b l zb lb))
+
+pub rotated_three : (x a b c r s t : ℕ) → x < 2 ^ 32 → 0 < a → a < 32 → 0 < b → b < 32 → 0 < c → c < 32
+    → r ≡ right a x → s ≡ right b x → t ≡ right c x
+    → bit_xor (bit_xor r s) t ≡ bit_xor (bit_xor (rotated 32 a x) (rotated 32 b x)) (rotated 32 c x)
+rotated_three x a b c r s t l za la zb lb zc lc e f g =
+    rotated_two x a b t r s l za la zb lb e f ∙ ap (bit_xor (bit_xor (rotated 32 a x) (rotated 32 b x))) (g ∙ rotated_right 32 x c l zc lc)
 
 pub t1_by : (v : List ℕ) (k w b c r : ℕ) → b ≡ sum1 (get_or v 4 0) → c ≡ ch (get_or v 4 0) (get_or v 5 0) (get_or v 6 0)
     → r ≡ ((((get_or v 7 0 + b) % 2 ^ 32 + c) % 2 ^ 32 + k) % 2 ^ 32 + w) % 2 ^ 32 → r ≡ t1 v k w
@@ -200,9 +219,6 @@ rest_copied s t at h g e =
 pub word_length : (x : ℕ) → length (be_bytes 4 x) ≡ 4
 unfolding be_bytes
 word_length x = refl
-
-pub digest_all : (h r : List ℕ) (i : ℕ) → length h ≡ 8 → i ≡ 8 → length r ≡ 32 → take (4 * i) r ≡ flat_map (be_bytes 4) (take i h) → r ≡ flat_map (be_bytes 4) h
-digest_all h r i n e l g = each_end (be_bytes 4) 4 word_length h r 8 i (4 * i) e (omega arith) g ∙ ap (flat_map (be_bytes 4)) (take_all 8 h (omega arith))
 
 -- bytes d, a one bit, z zeros, eight bytes and k zeros, written one after the other
 ended : (d b t u v : List ℕ) (n z k e : ℕ) → length d ≡ n → length b ≡ 8 → e ≡ n + 1 + z

@@ -89,21 +89,29 @@ const INITIAL: [u32; 8] = [
     0x5be0_cd19,
 ];
 
+// The table, which is known to be the standard's wherever it is lent.
+#[derive(Drop)]
+struct Constants {
+    words: [u32; 64],
+    ghost fips: { words ≡ S.constants },
+}
+
 // A function, so that the table is written out in this one proof only.
-fn table() -> [u32; 64]
-    ensures { result ≡ S.constants }
-{
-    K
+#[tactic(auto, unfolding(crate::specs::Sha256::constants))]
+fn table() -> Constants {
+    Constants { words: K }
 }
 
 // 4.1.2. `ch` picks y where x has a bit and z where not; `maj` keeps y but where x and z agree against it.
 // Both save operations, and the x ^ y of one turn is the y ^ z of the next.
+#[tactic(auto, using(crate::proofs::Sha256Bits::ch_by), unfolding(crate::specs::Sha256::ch))]
 fn ch(x: u32, y: u32, z: u32) -> u32
     ensures { result ≡ S.ch x y z }
 {
     z ^ (x & (y ^ z))
 }
 
+#[tactic(auto, using(crate::proofs::Sha256Bits::maj_by), unfolding(crate::specs::Sha256::maj))]
 fn maj(x: u32, y: u32, z: u32) -> u32
     ensures { result ≡ S.maj x y z }
 {
@@ -111,24 +119,28 @@ fn maj(x: u32, y: u32, z: u32) -> u32
 }
 
 // 4.1.2 defines these four one by one, by three constants each: one function of three const parameters would read no plainer.
+#[tactic(auto, using(crate::proofs::Sha256Laws::rotated_three), unfolding(crate::specs::Sha256::sum0))]
 fn sum0(x: u32) -> u32
     ensures { result ≡ S.sum0 x }
 {
     x.rotate_right(2) ^ x.rotate_right(13) ^ x.rotate_right(22)
 }
 
+#[tactic(auto, using(crate::proofs::Sha256Laws::rotated_three), unfolding(crate::specs::Sha256::sum1))]
 fn sum1(x: u32) -> u32
     ensures { result ≡ S.sum1 x }
 {
     x.rotate_right(6) ^ x.rotate_right(11) ^ x.rotate_right(25)
 }
 
+#[tactic(auto, using(crate::proofs::Sha256Laws::rotated_two), unfolding(crate::specs::Sha256::sig0))]
 fn sig0(x: u32) -> u32
     ensures { result ≡ S.sig0 x }
 {
     x.rotate_right(7) ^ x.rotate_right(18) ^ (x >> 3)
 }
 
+#[tactic(auto, using(crate::proofs::Sha256Laws::rotated_two), unfolding(crate::specs::Sha256::sig1))]
 fn sig1(x: u32) -> u32
     ensures { result ≡ S.sig1 x }
 {
@@ -136,6 +148,7 @@ fn sig1(x: u32) -> u32
 }
 
 // 6.2.2, step 3: T1, T2, and turn i of the working variables.
+#[tactic(auto, using(crate::proofs::Sha256Laws::t1_by))]
 fn t1(v: [u32; 8], k: u32, w: u32) -> u32
     ensures { result ≡ S.t1 v k w }
 {
@@ -145,17 +158,19 @@ fn t1(v: [u32; 8], k: u32, w: u32) -> u32
         .wrapping_add(w)
 }
 
+#[tactic(auto, using(crate::proofs::Sha256Laws::t2_by))]
 fn t2(v: [u32; 8]) -> u32
     ensures { result ≡ S.t2 v }
 {
     sum0(v[0]).wrapping_add(maj(v[0], v[1], v[2]))
 }
 
-fn turn(v: [u32; 8], k: &[u32; 64], w: &[u32; 64], i: usize) -> [u32; 8]
-    requires { (i < 64) × (k.now ≡ S.constants) }
+#[tactic(auto, using(crate::proofs::Sha256Laws::turned_by))]
+fn turn(v: [u32; 8], k: &Constants, w: &[u32; 64], i: usize) -> [u32; 8]
+    requires { i < 64 }
     ensures { result ≡ S.turned v (slice_index S.constants i) (slice_index w.now i) }
 {
-    let a = t1(v, k[i], w[i]);
+    let a = t1(v, k.words[i], w[i]);
     let b = t2(v);
     [
         a.wrapping_add(b),
@@ -170,8 +185,8 @@ fn turn(v: [u32; 8], k: &[u32; 64], w: &[u32; 64], i: usize) -> [u32; 8]
 }
 
 // Turn i, and word i + 16 of the schedule beside it (step 1), where there is one: neither waits for the other.
-fn step(v: [u32; 8], k: &[u32; 64], w: &mut [u32; 64], i: usize) -> [u32; 8]
-    requires { (i < 64) × (k.now ≡ S.constants) }
+fn step(v: [u32; 8], k: &Constants, w: &mut [u32; 64], i: usize) -> [u32; 8]
+    requires { i < 64 }
     ensures { Stepped 1 i w.old v w.new result }
 {
     if i < 48 {
@@ -184,8 +199,8 @@ fn step(v: [u32; 8], k: &[u32; 64], w: &mut [u32; 64], i: usize) -> [u32; 8]
 }
 
 // After eight turns each working variable has its register again: no moves.
-fn eight_steps(v: [u32; 8], k: &[u32; 64], w: &mut [u32; 64], i: usize) -> [u32; 8]
-    requires { (i + 8 ≤ 64) × (k.now ≡ S.constants) }
+fn eight_steps(v: [u32; 8], k: &Constants, w: &mut [u32; 64], i: usize) -> [u32; 8]
+    requires { i + 8 ≤ 64 }
     ensures { Stepped 8 i w.old v w.new result }
 {
     let v = step(v, k, w, i);
@@ -219,6 +234,7 @@ fn fold(h: [u32; 8], v: [u32; 8]) -> [u32; 8]
 }
 
 // 3.1: words are big-endian.
+#[tactic(auto, using(crate::proofs::Sha256Laws::word_by))]
 fn word(s: &[u8], at: usize) -> u32
     requires { at + 4 ≤ length s.now }
     ensures { result ≡ be (part s.now at 4) }
@@ -239,6 +255,7 @@ fn load(s: &[u8], at: usize) -> [u32; 64]
     w
 }
 
+#[tactic(auto, using(crate::proofs::Sha256Laws::compressed_by))]
 fn compress(h: [u32; 8], s: &[u8], at: usize) -> [u32; 8]
     requires { at + 64 ≤ length s.now }
     ensures { result ≡ S.compressed h s.now at }
@@ -263,6 +280,7 @@ fn absorb(s: &[u8]) -> [u32; 8]
 }
 
 // What of s comes after its whole blocks, and zeros.
+#[tactic(auto, using(crate::proofs::Sha256Laws::rest_copied))]
 fn rest(s: &[u8], at: usize) -> [u8; 128]
     requires { (at ≤ length s.now) × (length s.now < at + 64) }
     ensures { result ≡ drop at s.now ++ replicate (128 - (length s.now - at)) 0 }
@@ -273,6 +291,7 @@ fn rest(s: &[u8], at: usize) -> [u8; 128]
 }
 
 // The padded message (5.1.1) after the whole blocks: one block or two, and zeros.
+#[tactic(auto, using(crate::proofs::Sha256Laws::tail_by))]
 fn tail(s: &[u8]) -> [u8; 128]
     ensures { result ≡ drop (length s.now / 64 * 64) (S.padded s.now) ++ replicate
         ((119 - length s.now % 64) / 64 * 64) 0 }
@@ -287,6 +306,7 @@ fn tail(s: &[u8]) -> [u8; 128]
     t
 }
 
+// Words of four bytes, highest first: `put_numbers` of fiber_bytes writes eight, lowest first.
 fn digest(h: [u32; 8]) -> [u8; 32]
     ensures { result ≡ flat_map (be_bytes 4) h }
 {

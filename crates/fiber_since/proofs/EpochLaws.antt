@@ -4,10 +4,11 @@ use Prim.Native.Nat.{ℕ, ◌+◌, ◌*◌, ◌/◌, ◌%◌, ◌^◌, ◌≤◌
 use native.Mathlib.Nat.{mod-lt, div-add-mod', mul-le-mul_right, suc-mul, add-mul, mul_assoc, mul_comm, mul-pos, mul-le-mul_left, mul-lt-mul_of_pos_right, lt_of_le_of_lt, add_comm, add-mul-div_right, add-mul-mod_self_right, le-div_iff_mul-le, div-lt_iff_lt-mul}
 use native.Mathlib.Omega.{arith}
 use mathlib.Core.Path.{◌≡◌, refl, sym, ap, subst, ◌∙◌}
-use mathlib.Core.Bool.{Bool, true, false, cond, ◌&&◌, ◌||◌}
-use lib.Dec.{eqb, leb, ltb, lit<}
-use borrow.Author.Tests.{le-leb, lt-leb, leb-true, leb-false, lt-ltb, le-ltb, ltb-true, ltb-false, ne_eqb, eq-eqb}
+use mathlib.Core.Bool.{Bool, true, false, cond, ◌&&◌, ◌||◌, and-true, and_assoc, or-false, or_assoc}
+use lib.Dec.{leb, ltb, lit<}
+use borrow.Author.Tests.{le-leb, lt-leb, leb-true, leb-false, lt-ltb, le-ltb, ltb-true, ltb-false, ne_eqb}
 use Rattle.fiber_since.specs.declared.epoch.Epoch.{Epoch}
+use Rattle.std.proofs.lemmas.Bool.{and_parts, or_parts, eqb-false}
 use Rattle.std.specs.Prelude.{Result, Ok, Err}
 use Rattle.fiber_refusal.specs.declared.Refusal.{Refusal}
 use Rattle.fiber_refusal.specs.declared.Refusal.TheVariants.{LengthZero, ScaledAbove, NotWell}
@@ -88,7 +89,7 @@ one_rest n l i = ap (λ (x : ℕ). x % l) (add_comm (n * l) i) ∙ add-mul-mod_s
 pub product_below : (p q : ℕ) {x y : ℕ} → x < p → y ≤ q → 0 < q → x * y < p * q
 product_below p q {x} {y} h g z = lt_of_le_of_lt (mul-le-mul_left x g) (mul-lt-mul_of_pos_right h z)
 
-module _ {h d n : Epoch} (w : (Bounded h) × ((Bounded d) × (Bounded n))) where
+module _ {h d n : Epoch} (u : Bounded h) (v : Bounded d) (w : Bounded n) where
   abbrev whole : ℕ
   whole =
       h.number + h.index / h.length + (d.number + d.index / d.length)
@@ -98,32 +99,32 @@ module _ {h d n : Epoch} (w : (Bounded h) × ((Bounded d) × (Bounded n))) where
   x_of = units h * d.length + units d * h.length
 
   some_b : 0 < h.length * d.length
-  some_b = mul-pos w.0.some w.1.0.some
+  some_b = mul-pos u.some v.some
 
   same_whole : x_of / (h.length * d.length) ≡ whole
   unfolding units
-  same_whole = sum_whole h.number h.index h.length d.number d.index d.length w.0.some w.1.0.some
+  same_whole = sum_whole h.number h.index h.length d.number d.index d.length u.some v.some
 
   other_whole : units n / n.length ≡ n.number + n.index / n.length
   unfolding units
-  other_whole = one_whole n.number n.length n.index w.1.1.some
+  other_whole = one_whole n.number n.length n.index w.some
 
   pub due_below : whole < n.number + n.index / n.length → true ≡ due h d n
   unfolding due units
-  due_below g = sym (frac_below x_of (h.length * d.length) (units n) n.length some_b w.1.1.some (omega (arith, same_whole, other_whole)))
+  due_below g = sym (frac_below x_of (h.length * d.length) (units n) n.length some_b w.some (omega (arith, same_whole, other_whole)))
 
   pub due_above : n.number + n.index / n.length < whole → false ≡ due h d n
   unfolding due units
-  due_above g = sym (frac_above x_of (h.length * d.length) (units n) n.length some_b w.1.1.some (omega (arith, same_whole, other_whole)))
+  due_above g = sym (frac_above x_of (h.length * d.length) (units n) n.length some_b w.some (omega (arith, same_whole, other_whole)))
 
   pub due_same : whole ≡ n.number + n.index / n.length
       → leb ((((h.index % h.length) * d.length + (d.index % d.length) * h.length) % (h.length * d.length)) * n.length) ((n.index % n.length) * (h.length * d.length)) ≡ due h d n
   unfolding due units
   due_same g =
       ap (λ (r : ℕ). leb (r * n.length) ((n.index % n.length) * (h.length * d.length)))
-      (sym (sum_rest h.number h.index h.length d.number d.index d.length w.0.some w.1.0.some))
+      (sym (sum_rest h.number h.index h.length d.number d.index d.length u.some v.some))
       ∙ ap (λ (r : ℕ). leb ((x_of % (h.length * d.length)) * n.length) (r * (h.length * d.length))) (sym (one_rest n.number n.length n.index))
-      ∙ frac_same x_of (h.length * d.length) (units n) n.length some_b w.1.1.some (same_whole ∙ g ∙ sym other_whole)
+      ∙ frac_same x_of (h.length * d.length) (units n) n.length some_b w.some (same_whole ∙ g ∙ sym other_whole)
 
 -- ---- fields within their bits
 
@@ -134,14 +135,10 @@ pub record Bits (e : Epoch) : Type 0 where
 
 pub bits : (e : Epoch) → within_bits e ≡ true → Bits e
 unfolding within_bits
-bits e h = go (ltb e.number (2 ^ 24)) (ltb e.index (2 ^ 16)) (ltb e.length (2 ^ 16)) refl refl refl h
-  where
-    go : (a b d : Bool) → ltb e.number (2 ^ 24) ≡ a → ltb e.index (2 ^ 16) ≡ b → ltb e.length (2 ^ 16) ≡ d
-        → (a && b && d) ≡ true → Bits e
-    go true true true p q r h = record { number = ltb-true _ _ p; index = ltb-true _ _ q; length = ltb-true _ _ r }
-    go true true false p q r h = let z : ◌≡◌ {A = ℕ} 0 1 = cc in absurd (omega arith)
-    go true false d p q r h = let z : ◌≡◌ {A = ℕ} 0 1 = cc in absurd (omega arith)
-    go false b d p q r h = let z : ◌≡◌ {A = ℕ} 0 1 = cc in absurd (omega arith)
+bits e h =
+    let l = and_parts _ _ h in
+    let i = and_parts _ _ l.0 in
+    record { number = ltb-true _ _ i.0; index = ltb-true _ _ i.1; length = ltb-true _ _ l.1 }
 
 pub bits_length : (e : Epoch) → e.number < 2 ^ 24 → e.index < 2 ^ 16 → ltb e.length (2 ^ 16) ≡ within_bits e
 unfolding within_bits
@@ -153,11 +150,11 @@ within e h z =
     let b = bits e h in
     record { number = b.number; index = b.index; length = b.length; some = omega arith }
 
-pub units_small : (e : Epoch) → within_bits e ≡ true → (e.number * e.length < 2 ^ 40) × (e.number * e.length + e.index < 2 ^ 41)
-units_small e h =
-    let b = bits e h in
-    let p : e.number * e.length < 2 ^ 40 = product_below (2 ^ 24) (2 ^ 16) b.number (omega (arith, b.length)) (lit< tt) in
-    (p, omega (arith, p, b.index))
+pub whole_below : (e : Epoch) → within_bits e ≡ true → e.number * e.length < 2 ^ 40
+whole_below e h = let b = bits e h in product_below (2 ^ 24) (2 ^ 16) b.number (omega (arith, b.length)) (lit< tt)
+
+pub units_below : (e : Epoch) → within_bits e ≡ true → e.number * e.length + e.index < 2 ^ 41
+units_below e h = omega (arith, whole_below e h, (bits e h).index)
 
 -- ---- fields of an epoch value
 
@@ -280,33 +277,12 @@ module _ (e : Epoch) (a b : ℕ) where
 
 -- ---- the due test, by its tests
 
-no_zero : (n : ℕ) → eqb n 0 ≡ false → (n ≡ 0 → ⊥)
-no_zero n e h = let z : eqb n 0 ≡ true = eq-eqb n 0 h in let y : ◌≡◌ {A = ℕ} 0 1 = cc in omega arith
-
 -- a list of three tests, as the code has them
 and_three : (a b d : Bool) → (a && (b && (d && true))) ≡ (a && b && d)
-and_three true true true = refl
-and_three true true false = refl
-and_three true false d = refl
-and_three false b d = refl
+and_three a b d = simp (and-true, and_assoc)
 
 or_three : (a b d : Bool) → (a || (b || (d || false))) ≡ (a || b || d)
-or_three true b d = refl
-or_three false true d = refl
-or_three false false true = refl
-or_three false false false = refl
-
-all_true : (a b d : Bool) → true ≡ (a && (b && (d && true))) → (a ≡ true) × ((b ≡ true) × (d ≡ true))
-all_true true true true e = (refl, (refl, refl))
-all_true true true false e = let z : ◌≡◌ {A = ℕ} 0 1 = cc in absurd (omega arith)
-all_true true false d e = let z : ◌≡◌ {A = ℕ} 0 1 = cc in absurd (omega arith)
-all_true false b d e = let z : ◌≡◌ {A = ℕ} 0 1 = cc in absurd (omega arith)
-
-none_true : (a b d : Bool) → false ≡ (a || (b || (d || false))) → (a ≡ false) × ((b ≡ false) × (d ≡ false))
-none_true false false false e = (refl, (refl, refl))
-none_true false false true e = let z : ◌≡◌ {A = ℕ} 0 1 = cc in absurd (omega arith)
-none_true false true d e = let z : ◌≡◌ {A = ℕ} 0 1 = cc in absurd (omega arith)
-none_true true b d e = let z : ◌≡◌ {A = ℕ} 0 1 = cc in absurd (omega arith)
+or_three a b d = simp (or-false, or_assoc)
 
 module _ (h d n : Epoch) where
   abbrev all_bits : Bool
@@ -331,6 +307,8 @@ module _ (h d n : Epoch) where
     -- each of the three can be compared
     pub three_within : false ≡ some_zero → Bounded h × (Bounded d × Bounded n)
     three_within z =
-        let b = all_true (within_bits h) (within_bits d) (within_bits n) e in
-        let o = none_true (no_length h) (no_length d) (no_length n) z in
-        (within h b.0 (no_zero h.length o.0), (within d b.1.0 (no_zero d.length o.1.0), within n b.1.1 (no_zero n.length o.1.1)))
+        let b = and_parts _ _ (sym e) in
+        let b' = and_parts _ _ b.1 in
+        let o = or_parts _ _ (sym z) in
+        let o' = or_parts _ _ o.1 in
+        (within h b.0 (eqb-false _ _ o.0), (within d b'.0 (eqb-false _ _ o'.0), within n (and_parts _ _ b'.1).0 (eqb-false _ _ (or_parts _ _ o'.1).0)))

@@ -7,6 +7,7 @@ use crate::epoch::{Epoch, all_within, any_zero};
 use fiber_refusal::Refusal;
 
 // Whether header + delay is at most current: the whole parts first, then the fractions below one.
+#[tactic(auto, using(crate::proofs::EpochLaws::due_below, crate::proofs::EpochLaws::due_above, crate::proofs::EpochLaws::due_same))]
 pub fn due(header: Comparable, delay: Comparable, current: Comparable) -> bool
     ensures { result ≡ S.due header.epoch delay.epoch current.epoch }
 {
@@ -29,7 +30,8 @@ pub fn due(header: Comparable, delay: Comparable, current: Comparable) -> bool
     (a % b) * l3 <= (current.index % l3) * b
 }
 
-// The due test.
+// The due test. Not by `Comparable::try_from`: of the three epochs all bits are looked at before all lengths.
+#[tactic(auto, using(crate::proofs::EpochLaws::test_bits, crate::proofs::EpochLaws::test_zero, crate::proofs::EpochLaws::test_due, crate::proofs::EpochLaws::three_within))]
 pub fn is_due(header: Epoch, delay: Epoch, current: Epoch) -> Result<bool, Refusal>
     ensures { result ≡ S.due_test header delay current }
 {

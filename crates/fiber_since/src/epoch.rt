@@ -20,7 +20,8 @@ pub struct Epoch {
     pub length: u64,
 }
 
-// The fields of an epoch value: number, index, length from the lowest bit up, 56 bits in all.
+// The fields of an epoch value: number, index, length from the lowest bit up, 56 bits in all. CKB's crates give it this name; `From<u64>` would not
+// say that the number has all three.
 #[tactic(auto, unfolding(crate::specs::Epoch::epoch_of))]
 pub fn from_full_value(value: u64) -> Epoch
     ensures { result ≡ S.epoch_of value }
@@ -75,6 +76,7 @@ fn product(a: u64, b: u64) -> Result<u64, Refusal>
 }
 
 // The delay times numerator / denominator.
+#[tactic(auto, using(crate::proofs::EpochLaws::whole_below, crate::proofs::EpochLaws::units_below, crate::proofs::EpochLaws::scaled_bits, crate::proofs::EpochLaws::scaled_over, crate::proofs::EpochLaws::scaled_over_2, crate::proofs::EpochLaws::scaled_fits), unfolding(crate::specs::Epoch::units))]
 pub fn mul(delay: Epoch, numerator: u64, denominator: u64) -> Result<Epoch, Refusal>
     ensures { result ≡ S.scaled delay numerator denominator }
 {

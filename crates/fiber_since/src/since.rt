@@ -20,6 +20,7 @@ pub struct Since {
     pub value: u64,
 }
 
+// No TryFrom: bits that are no metric are no error.
 #[tactic(auto, unfolding(crate::specs::Since::metric_of))]
 fn metric_of(bits: u64) -> Option<Metric>
     ensures { result ≡ S.metric_of bits }
@@ -32,7 +33,8 @@ fn metric_of(bits: u64) -> Option<Metric>
     }
 }
 
-// A since value taken apart. Bits 60 to 56 are not looked at.
+// A since value taken apart, under the name that CKB's crates give this; `From<u64>` would not say that the number is raw. Bits 60 to 56 are not
+// looked at.
 #[tactic(auto, unfolding(crate::specs::Since::since))]
 pub fn from_raw_value(raw: u64) -> Since
     ensures { result ≡ S.since raw }

@@ -14,7 +14,8 @@ use fiber_types::layout::{KEY, SETTLEMENT_TLC_HASH, SETTLEMENT_TLC_LOCAL_KEY};
 use fiber_types::tlc;
 
 // Whether a settlement TLC's hash begins with start and its local key hashes to ours. This is asked of each settlement TLC for each tracked one, so
-// that both lengths are the caller's to know, one cut is compared, and a key is hashed only where the hash fits.
+// that both lengths are the caller's to know, one cut is compared, and a key is hashed only where the hash fits. Of bytes, and no `SettlementTlc`: for that
+// the closure that asks would need a clause of its own, that they are whole; and a `SettlementTlc` made here would cut the whole hash out first.
 #[tactic(auto, using(fiber_choice::proofs::VerdictsLaws::key_differs, fiber_choice::proofs::VerdictsLaws::key_decides))]
 fn is_key(start: &[u8], ours: &[u8], tlc: &[u8]) -> bool
     requires { (length start.now ≤ 32) × (length tlc.now ≡ settlement_len) }

@@ -4,10 +4,10 @@ ghost use Rattle.fiber_choice.specs.Entries.{entries, pair_len};
 ghost use Rattle.fiber_choice.specs.Preimages as S;
 
 use fiber_bytes::part_of;
+use fiber_choice::pair::pair_preimage;
 use fiber_choice::tracked::TrackedTlc;
 use fiber_first::lent::pairs;
 use fiber_types::blake2b::ckb_hash;
-use fiber_types::layout::{PAIR, PAIR_PREIMAGE};
 use fiber_types::sha256::sha256;
 
 // The hash of a preimage under an algorithm, the byte as a tracked TLC has it: 1 is SHA-256, else CKB's hash.
@@ -30,13 +30,12 @@ pub fn find_pair(preimages: &[u8], hash: &[u8]) -> Option<usize>
 }
 
 // Whether the preimage in the pair at a place has the tracked TLC's hash under its algorithm.
-#[tactic(auto, using(fiber_choice::proofs::PreimagesLaws::pair_preimage_lem), unfolding(fiber_choice::specs::Preimages::counts_at))]
+#[tactic(auto, unfolding(fiber_choice::specs::Preimages::counts_at))]
 pub fn counts(preimages: &[u8], pair_place: usize, tracked: &TrackedTlc<'_>) -> bool
     requires { pair_len * pair_place + pair_len ≤ length preimages.now }
     ensures { result ≡ S.counts_at (entries pair_len preimages.now) tracked.now.bytes.now pair_place }
 {
-    let preimage = part_of(preimages, PAIR * pair_place + PAIR_PREIMAGE, 32);
-    let found = digest(tracked.algorithm(), preimage);
+    let found = digest(tracked.algorithm(), pair_preimage(preimages, pair_place));
     found.as_slice() == tracked.hash()
 }
 

@@ -1,6 +1,6 @@
 // One TLC of the walk. What it comes to is a verdict at a time, but the code looks for a key and hashes a preimage only where
 // that matters. Place and count go beside the TLC, and in no struct: a step names the one and answers the other.
-ghost use Rattle.std.specs.Prelude.{◌≡◌, true, false, ℕ, Option, ◌+◌, ◌≤◌, ◌<◌, length, get_or, []};
+ghost use Rattle.std.specs.Prelude.{◌≡◌, true, false, ℕ, Option, ◌+◌, ◌<◌, length};
 ghost use Rattle.fiber_choice.specs.Entries.{tracked_record, entries, pair_len};
 ghost use Rattle.fiber_choice.specs.Request.{settlement_tlcs, tracked_tlcs, pairs};
 ghost use Rattle.fiber_choice.specs.Preimages.{counting_pair};
@@ -12,14 +12,12 @@ use crate::key::key_of;
 use crate::preimage::{counting_pair, counts, find_pair};
 use crate::settlement::settlement_tlc;
 use crate::slot::timeout_kind;
-use fiber_bytes::le64;
 use fiber_choice::checked::Checked;
 use fiber_choice::kinds::{Choice, Chosen, Dues, Key, Stage, Way};
+use fiber_choice::settlement::SettlementTlc;
 use fiber_choice::tracked::TrackedTlc;
 use fiber_choice::walk::Walk;
-use fiber_types::layout::SETTLEMENT_TLC_EXPIRY;
 use fiber_types::since::absolute_expiry;
-use fiber_types::tlc;
 use std::ops::ControlFlow;
 
 // Taken by timeout with a key, once the expiry has passed.
@@ -127,8 +125,8 @@ fn later_preimage(
     }
 }
 
-// A tracked TLC of a later settlement. The record is whole, so that its reader never turns it down.
-#[tactic(auto, using(crate::proofs::RecordLaws::read_whole), unfolding(fiber_choice::specs::Walk::step_of, fiber_choice::specs::Verdicts::later_verdict, fiber_choice::specs::Verdicts::by_expiry))]
+// A tracked TLC of a later settlement.
+#[tactic(auto, unfolding(fiber_choice::specs::Walk::step_of, fiber_choice::specs::Verdicts::later_verdict, fiber_choice::specs::Verdicts::by_expiry))]
 fn later_step(
     q: &Checked<'_>,
     tracked: &TrackedTlc<'_>,
@@ -138,9 +136,7 @@ fn later_step(
     ensures { result ≡ W.step_of q.now.time place pending (S.later_verdict tracked.now.h.bytes q.now.for_remote (settlement_tlcs (request_by q.now))
         (pairs (request_by q.now)) tracked.now.bytes.now) }
 {
-    let Ok(tlc) = tlc::read(tracked.h.bytes, tracked.record(), 0) else {
-        return ControlFlow::Continue(pending);
-    };
+    let tlc = tracked.tlc();
     let Some(ms) = absolute_expiry(tlc.expiry) else {
         return ControlFlow::Continue(pending);
     };
@@ -150,22 +146,22 @@ fn later_step(
     later_preimage(q, tracked, ms, place, pending)
 }
 
-// The settlement TLC at a place of a first settlement, and its tracked one.
+// A settlement TLC of a first settlement, and the tracked one at the same place. Both go along: a struct of the two would be made for this one call and taken
+// apart in it.
 #[tactic(auto, using(fiber_choice::proofs::VerdictsLaws::step_passed), unfolding(fiber_choice::specs::Verdicts::first_verdict, fiber_choice::specs::Verdicts::by_pair))]
 fn first_step(
     q: &Checked<'_>,
     dues: Dues,
+    tlc: &SettlementTlc<'_>,
     tracked: &TrackedTlc<'_>,
     place: usize,
     pending: usize,
 ) -> ControlFlow<Chosen, usize>
-    requires { (place ≤ 254) × (place < length (settlement_tlcs (request_by q.now))) }
     ensures { result ≡ W.step_of q.now.time place pending (S.first_verdict q.now.for_remote (pairs (request_by q.now)) dues
-        place (get_or (settlement_tlcs (request_by q.now)) place []) tracked.now.bytes.now) }
+        place tlc.now.bytes.now tracked.now.bytes.now) }
 {
-    let tlc = settlement_tlc(q, place);
-    let ms = le64(tlc, SETTLEMENT_TLC_EXPIRY);
-    if timeout_kind(q.for_remote, tlc[0] == 0) {
+    let ms = tlc.expiry_ms();
+    if timeout_kind(q.for_remote, tlc.is_offered()) {
         if dues.two_thirds {
             return timeout_step(q.time, ms, place, place, pending);
         }
@@ -199,7 +195,10 @@ pub fn step(
 {
     // A match, and no trait or closure: document 01 tells two settlements apart, and what differs is one call.
     match walk.stage {
-        Stage::First(dues) => first_step(walk.q, dues, tracked, place, pending),
+        Stage::First(dues) => {
+            let tlc = settlement_tlc(walk.q, place);
+            first_step(walk.q, dues, &tlc, tracked, place, pending)
+        }
         Stage::Later => later_step(walk.q, tracked, place, pending),
     }
 }

@@ -1,36 +1,31 @@
 -- Laws of `specs/Records.antt`: the definitions by their tests, and both directions of each layout.
 -- Assumes nothing.
-use Prim.Native.Nat.{ℕ, suc, ◌+◌, ◌-◌, ◌≤◌, ◌<◌}
+use Prim.Native.Nat.{ℕ, suc, ◌+◌, ◌-◌, ◌^◌, ◌≤◌, ◌<◌, min}
 use native.Mathlib.Omega.{arith}
-use mathlib.Core.Path.{◌≡◌, refl, sym, ap, ◌∙◌}
+use mathlib.Core.Path.{◌≡◌, refl, sym, ap, ap₂, ◌∙◌}
 use mathlib.Core.Bool.{Bool, true, false, ◌&&◌, ◌||◌}
 use mathlib.Core.List.{List, ◌∷◌, ◌++◌, append_assoc}
 use lib.Dec.{eqb, leb, lit≤}
 use lib.ListN.{length, get_or, drop, length-append, length-take, set}
-use lib.Seq.{sets}
+use lib.Seq.{sets, length-sets}
 use borrow.Author.Tests.{le-leb, lt-leb, leb-true, eq-eqb, eqb-true}
 use Rattle.std.specs.Prelude.{Result, Ok, Err}
 use Rattle.fiber_refusal.specs.declared.Refusal.{Refusal}
-use Rattle.fiber_refusal.specs.declared.Refusal.TheVariants.{TlcCut, OutputShort, NotWell}
+use Rattle.fiber_refusal.specs.declared.Refusal.TheVariants.{OutputShort, NotWell}
 use Rattle.fiber_types.specs.declared.tlc.Amount.{Amount}
 use Rattle.fiber_types.specs.declared.tlc.Tlc.{Tlc}
 use Rattle.fiber_types.specs.declared.unlock.Unlock.{Unlock}
 use Rattle.fiber_bytes.specs.Bytes.{part, le, le_bytes}
 use Rattle.fiber_types.specs.HashLen.{valid_hash_len}
-use Rattle.fiber_types.specs.Records.{outcome, amount_at, tlc_bytes, tlc_at, payment_hash, read_tlc, wrote_tlc, witness_len, flag_byte, unlock_bytes, read_unlock, wrote_unlock, unwritten}
-use Rattle.fiber_bytes.proofs.BytesLaws.{part_part, le_bytes_length, sets_then}
+use Rattle.fiber_types.specs.Records.{outcome, amount_at, amount_bytes, tlc_bytes, tlc_at, payment_hash, read_tlc, wrote_tlc, witness_len, flag_byte, unlock_bytes, read_unlock, wrote_unlock, unwritten}
+use Rattle.fiber_bytes.proofs.BytesLaws.{part_part, le_bytes_length, sets_append, sets_capped, sets_then}
 
 -- ---- reading
 
 module _ (h : ℕ) (s : List ℕ) (at : ℕ) where
-  module _ (e : valid_hash_len h ≡ true) where
-    pub tlc_cut : length s < at + (65 + h) → Err (TlcCut at) ≡ read_tlc h s at
-    unfolding read_tlc
-    tlc_cut g = rw (e, lt-leb (at + (65 + h)) (length s) g)
-
-    pub tlc_whole : at + (65 + h) ≤ length s → read_tlc h s at ≡ Ok (tlc_at h s at)
-    unfolding read_tlc
-    tlc_whole g = rw (e, le-leb (at + (65 + h)) (length s) g)
+  pub tlc_whole : valid_hash_len h ≡ true → at + (65 + h) ≤ length s → read_tlc h s at ≡ Ok (tlc_at h s at)
+  unfolding read_tlc
+  tlc_whole e g = rw (e, le-leb (at + (65 + h)) (length s) g)
 
   -- its numbers
   pub tlc_fields : (k : ℕ) (a : Amount) (x : ℕ) → k ≡ get_or s at 0 → a ≡ amount_at s (at + 1) → x ≡ le (part s (at + 57 + h) 8)
@@ -91,6 +86,29 @@ module _ (ok : Bool) (bytes out : List ℕ) where
     unfolding outcome
     outcome_whole g out' d = (rw (e, f, le-leb n (length out) g), rw (e, f, le-leb n (length out) g) d)
 
+-- an amount's bytes, alone and behind others
+pub amount_bytes_length : (a : Amount) → length (amount_bytes a) ≡ 16
+unfolding amount_bytes
+amount_bytes_length a = omega (arith, length-append (le_bytes 8 a.low) (le_bytes 8 a.high), le_bytes_length 8 a.low, le_bytes_length 8 a.high)
+
+pub amount_behind : (s : List ℕ) (a : Amount) → s ++ amount_bytes a ≡ s ++ le_bytes 8 a.low ++ le_bytes 8 a.high
+unfolding amount_bytes
+amount_behind s a = sym (append_assoc s (le_bytes 8 a.low) (le_bytes 8 a.high))
+
+-- its halves, one behind the other: where the second place stops at the greatest number neither has room
+pub amount_puts : (o o₁ o₂ : List ℕ) (at j : ℕ) (a : Amount) → length o < 2 ^ 64 → j ≡ min (at + 8) (2 ^ 64 - 1)
+    → o₁ ≡ sets o at (le_bytes 8 a.low) → o₂ ≡ sets o₁ j (le_bytes 8 a.high) → o₂ ≡ sets o at (amount_bytes a)
+unfolding amount_bytes
+amount_puts o o₁ o₂ at j a h m e f =
+    let low = le_bytes 8 a.low in
+    let high = le_bytes 8 a.high in
+    let n : length o₁ ≡ length o = ap length e ∙ length-sets o at low in
+    f
+    ∙ ap (λ (k : ℕ). sets o₁ k high) m
+    ∙ sets_capped high o₁ (at + 8) (2 ^ 64 - 1) (omega arith)
+    ∙ ap₂ (λ (l : List ℕ) (k : ℕ). sets l k high) e (ap (λ (k : ℕ). at + k) (sym (le_bytes_length 8 a.low)))
+    ∙ sym (sets_append low high o at)
+
 -- what does not fit the layout, and what has no room
 pub outcome_none : (bytes out : List ℕ) → outcome false bytes out ≡ unwritten (Err NotWell) out
 unfolding outcome
@@ -122,30 +140,25 @@ module _ (t : Tlc) (hash remote local : List ℕ) where
   unfolding tlc_bytes
   tlc_bytes_length = simp (length-append, le_bytes_length) (omega arith)
 
-  regroup : (((((t.kind ∷ le_bytes 8 t.amount.low) ++ le_bytes 8 t.amount.high) ++ hash) ++ remote) ++ local) ++ le_bytes 8 t.expiry ≡ tlc_bytes t hash remote local
-  unfolding tlc_bytes
+  regroup : (((t.kind ∷ amount_bytes t.amount) ++ hash) ++ remote) ++ local ++ le_bytes 8 t.expiry ≡ tlc_bytes t hash remote local
+  unfolding amount_bytes tlc_bytes
   regroup = simp append_assoc
 
-  pub tlc_puts : (o o₁ o₂ o₃ o₄ o₅ o₆ : List ℕ) → o₁ ≡ sets (set o 0 t.kind) 1 (le_bytes 8 t.amount.low) → o₂ ≡ sets o₁ 9 (le_bytes 8 t.amount.high)
-      → o₃ ≡ sets o₂ 17 hash → o₄ ≡ sets o₃ (17 + length hash) remote → o₅ ≡ sets o₄ (17 + length hash + length remote) local
-      → o₆ ≡ sets o₅ (17 + length hash + length remote + length local) (le_bytes 8 t.expiry) → o₆ ≡ sets o 0 (tlc_bytes t hash remote local)
-  unfolding tlc_bytes
-  tlc_puts o o₁ o₂ o₃ o₄ o₅ o₆ e₁ e₂ e₃ e₄ e₅ e₆ =
-      let high = le_bytes 8 t.amount.high in
-      let a₁ : List ℕ = t.kind ∷ le_bytes 8 t.amount.low in
-      let a₂ : List ℕ = a₁ ++ high in
-      let a₃ : List ℕ = a₂ ++ hash in
-      let a₄ : List ℕ = a₃ ++ remote in
-      let n₁ : length a₁ ≡ 9 = ap suc (le_bytes_length 8 t.amount.low) in
-      let n₂ : length a₂ ≡ 17 = length-append a₁ high ∙ omega (arith, n₁, le_bytes_length 8 t.amount.high) in
-      let n₃ : length a₃ ≡ 17 + length hash = length-append a₂ hash ∙ ap (λ (n : ℕ). n + length hash) n₂ in
-      let n₄ : length a₄ ≡ 17 + length hash + length remote = length-append a₃ remote ∙ ap (λ (n : ℕ). n + length remote) n₃ in
-      let n₅ : length (a₄ ++ local) ≡ 17 + length hash + length remote + length local = length-append a₄ local ∙ ap (λ (n : ℕ). n + length local) n₄ in
-      let p₂ = sets_then o a₁ high 9 e₁ e₂ (sym n₁) in
-      let p₃ = sets_then o a₂ hash 17 p₂ e₃ (sym n₂) in
-      let p₄ = sets_then o a₃ remote (17 + length hash) p₃ e₄ (sym n₃) in
-      let p₅ = sets_then o a₄ local (17 + length hash + length remote) p₄ e₅ (sym n₄) in
-      sets_then o (a₄ ++ local) (le_bytes 8 t.expiry) (17 + length hash + length remote + length local) p₅ e₆ (sym n₅) ∙ ap (sets o 0) regroup
+  pub tlc_puts : (o o₁ o₂ o₃ o₄ o₅ : List ℕ) → o₁ ≡ sets (set o 0 t.kind) 1 (amount_bytes t.amount)
+      → o₂ ≡ sets o₁ 17 hash → o₃ ≡ sets o₂ (17 + length hash) remote → o₄ ≡ sets o₃ (17 + length hash + length remote) local
+      → o₅ ≡ sets o₄ (17 + length hash + length remote + length local) (le_bytes 8 t.expiry) → o₅ ≡ sets o 0 (tlc_bytes t hash remote local)
+  tlc_puts o o₁ o₂ o₃ o₄ o₅ e₁ e₂ e₃ e₄ e₅ =
+      let a₁ : List ℕ = t.kind ∷ amount_bytes t.amount in
+      let a₂ : List ℕ = a₁ ++ hash in
+      let a₃ : List ℕ = a₂ ++ remote in
+      let n₁ : length a₁ ≡ 17 = ap suc (amount_bytes_length t.amount) in
+      let n₂ : length a₂ ≡ 17 + length hash = length-append a₁ hash ∙ ap (λ (n : ℕ). n + length hash) n₁ in
+      let n₃ : length a₃ ≡ 17 + length hash + length remote = length-append a₂ remote ∙ ap (λ (n : ℕ). n + length remote) n₂ in
+      let n₄ : length (a₃ ++ local) ≡ 17 + length hash + length remote + length local = length-append a₃ local ∙ ap (λ (n : ℕ). n + length local) n₃ in
+      let p₂ = sets_then o a₁ hash 17 e₁ e₂ (sym n₁) in
+      let p₃ = sets_then o a₂ remote (17 + length hash) p₂ e₃ (sym n₂) in
+      let p₄ = sets_then o a₃ local (17 + length hash + length remote) p₃ e₄ (sym n₃) in
+      sets_then o (a₃ ++ local) (le_bytes 8 t.expiry) (17 + length hash + length remote + length local) p₄ e₅ (sym n₄) ∙ ap (sets o 0) regroup
 
 module _ (u : Unlock) (signature preimage : List ℕ) where
   -- it begins with its byte, and its flag is read back
@@ -185,11 +198,6 @@ module _ (t : Tlc) (hash remote local out : List ℕ) where
 
     size : length (tlc_bytes t hash remote local) ≡ 65 + length hash
     size = omega (arith, tlc_bytes_length t hash remote local)
-
-    pub tlc_short : length out < 65 + length hash
-        → (Err (OutputShort (65 + length hash)) ≡ (wrote_tlc t hash remote local out).answer) × (out ≡ (wrote_tlc t hash remote local out).bytes)
-    unfolding wrote_tlc
-    tlc_short g = outcome_short _ (tlc_bytes t hash remote local) out fit _ size g
 
     pub tlc_written : 65 + length hash ≤ length out → (out' : List ℕ) → out' ≡ sets out 0 (tlc_bytes t hash remote local)
         → (Ok (65 + length hash) ≡ (wrote_tlc t hash remote local out).answer) × (out' ≡ (wrote_tlc t hash remote local out).bytes)

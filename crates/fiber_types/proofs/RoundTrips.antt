@@ -11,6 +11,7 @@ use lib.Dec.{eqb, leb, lit<}
 use lib.ListN.{length, get_or, take, drop, set, length-append, length-take, get_or-eq_default}
 use lib.Seq.{take_at, drop_at, drop-drop, get_or_at, get_or-take, get_or-drop}
 use borrow.Author.Tests.{leb-true, leb-false}
+use Rattle.std.proofs.lemmas.Bool.{cases_lt}
 use Rattle.std.specs.Prelude.{Result, Ok, Err}
 use Rattle.fiber_refusal.specs.declared.Refusal.{Refusal}
 use Rattle.fiber_refusal.specs.declared.Refusal.TheVariants.{TlcCut, UnlockCut, NotWell}
@@ -19,7 +20,7 @@ use Rattle.fiber_types.specs.declared.unlock.Unlock.{Unlock}
 use Rattle.fiber_bytes.specs.Bytes.{part, le, le_bytes}
 use Rattle.fiber_types.specs.HashLen.{valid_hash_len}
 use Rattle.fiber_types.specs.Records.{amount_of, amount_at, tlc_bytes, tlc_at, payment_hash, key_hash_in, read_tlc, witness_len, flag_byte, unlock_bytes, read_unlock}
-use Rattle.fiber_bytes.proofs.BytesLaws.{either, part_add, part_length, part_one, le_add, le_bytes_length}
+use Rattle.fiber_bytes.proofs.BytesLaws.{part_add, part_length, part_one, le_add, le_bytes_length}
 use Rattle.fiber_types.proofs.RecordsLaws.{tlc_bytes_length, unlock_bytes_length, tlc_whole, tlc_fields, unlock_whole, at_least, amount_both}
 
 -- every element is a byte
@@ -59,7 +60,7 @@ cut s at m n k b e f = rw (e, f) (part_add s at m n)
 
 pub part_bytes : (s : List ℕ) (at n : ℕ) → Bytes s → Bytes (part s at n)
 unfolding Bytes
-part_bytes s at n h k = ⊎_elim past within (either n k)
+part_bytes s at n h k = ⊎_elim within past (cases_lt k n)
   where
     past : n ≤ k → get_or (part s at n) k 0 < 256
     past g =

@@ -42,6 +42,10 @@ amount_of a = a.low + 2 ^ 64 * a.high
 unfoldable pub amount_at : List ℕ → ℕ → Amount
 amount_at s at = record { low = le (part s at 8); high = le (part s (at + 8) 8) }
 
+-- its bytes: the low half, then the high one, each lowest first
+unfoldable pub amount_bytes : Amount → List ℕ
+amount_bytes a = le_bytes 8 a.low ++ le_bytes 8 a.high
+
 -- ---- TLCs
 
 -- type bit 0 clear: offered

@@ -38,7 +38,7 @@ fn delay_for(third: Epoch, two_thirds: Epoch, full: Epoch, choice: Choice) -> Ep
     }
 }
 
-// Where the record of the choice is in the tracked list.
+// Where the record of the choice is in the tracked list. The place is asked, as in `plan_of` of fiber_output.
 #[tactic(auto, using(fiber_choice::proofs::SettlementsLaws::place_few), unfolding(fiber_choice::specs::Settlements::first_place, fiber_choice::specs::inner::Plan::Below))]
 fn first_place(h: HashLen, choice: Choice) -> usize
     requires { Below 255 choice }
@@ -69,6 +69,7 @@ fn dues_by(
 }
 
 // What follows the built records: the thirds of the delay, the walk, and what is handed out.
+#[tactic(auto, using(fiber_since::proofs::EpochLaws::third_refused))]
 fn first_thirds(q: &Checked<'_>, full: Comparable, out: &mut [u8]) -> Result<Decision, NoChoice>
     requires few { length (tracked_tlcs (request_by q.now)) ≤ 254 }
     requires as_many { length (settlement_tlcs (request_by q.now)) ≡ length (tracked_tlcs (request_by q.now)) }
@@ -95,10 +96,7 @@ fn first_thirds(q: &Checked<'_>, full: Comparable, out: &mut [u8]) -> Result<Dec
         local: &built.local,
     };
     let lent = Lent {
-        h: q.h,
-        args: q.args,
-        tracked: q.tracked,
-        preimages: q.preimages,
+        q,
         shares,
         last: false,
     };
@@ -118,7 +116,7 @@ fn first_ready(q: &Checked<'_>, full: Epoch) -> Result<(), NoChoice>
     if MOST_TLCS < q.settlement.tlcs.len() / SETTLEMENT_TLC {
         return Err(NoChoice::Refused(Refusal::TooManyTlcs));
     }
-    if same_as_tracked(q.h, q.for_remote, q.settlement.tlcs, q.tracked) {
+    if same_as_tracked(q) {
         Ok(())
     } else {
         Err(NoChoice::Wait(Wait::ListDiffers))
@@ -126,6 +124,7 @@ fn first_ready(q: &Checked<'_>, full: Epoch) -> Result<(), NoChoice>
 }
 
 // A first settlement: the rows before the walk, then the walk.
+#[tactic(auto, using(fiber_choice::proofs::SettlementsLaws::ready_few, fiber_choice::proofs::SettlementsLaws::ready_many, fiber_choice::proofs::SettlementsLaws::ready_bounded, fiber_choice::proofs::SettlementsLaws::ready_full))]
 pub fn choose_first(q: &Checked<'_>, full: Epoch, out: &mut [u8]) -> Result<Decision, NoChoice>
     requires { within_bits full ≡ true }
     ensures { Gives (S.first (request_by q.now) full out.old) result out.new }

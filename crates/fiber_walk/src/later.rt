@@ -1,10 +1,9 @@
 // The later settlement: the TLCs that stand after the witness's own unlocks are walked in order.
-ghost use Rattle.std.specs.Prelude.{◌≡◌, cond, ◌≤◌, length, get_or, take};
+ghost use Rattle.std.specs.Prelude.{◌≡◌, cond, ◌≤◌, length, slice_get, take};
 ghost use Rattle.fiber_types.specs.Records.{Gives};
-ghost use Rattle.fiber_witness.specs.inner.Strided.{behind_tlcs};
-ghost use Rattle.fiber_witness.specs.Update.{standing};
 ghost use Rattle.fiber_witness.specs.inner.Marks.{marked};
-ghost use Rattle.fiber_choice.specs.Entries.{same, same_lists, entries, tracked_len, tracked_records};
+ghost use Rattle.fiber_witness.specs.inner.Records.{standing_of};
+ghost use Rattle.fiber_choice.specs.Entries.{same, same_lists, entries, tracked_len, tracked_record, tracked_records};
 ghost use Rattle.fiber_choice.specs.Request.{tracked_tlcs};
 ghost use Rattle.fiber_choice.specs.FirstRecords.{hash_of};
 ghost use Rattle.fiber_choice.specs.declared.kinds.Stage.TheVariants as StageCase;
@@ -25,73 +24,51 @@ use fiber_refusal::Refusal;
 use fiber_step::slot::our_share;
 use fiber_types::hash_len::HashLen;
 use fiber_types::layout::{KEY_HASH, MOST_TLCS, TRACKED_RECORD};
-use fiber_witness::marks::{UNMARKED, count_standing};
+use fiber_witness::left::{StateLeft, state_left};
+use fiber_witness::marks::UNMARKED;
+use fiber_witness::records::Records;
 use fiber_witness::shares::Shares;
-use fiber_witness::unlocks::take_unlocks;
-use fiber_witness::witness;
 
-// The witness of a request, read whole, and which of its TLCs its unlocks settle.
-#[derive(Clone, Copy)]
-struct TakenWitness<'a> {
-    q: &'a Checked<'a>,
-    w: &'a [u8],
-    marks: &'a [bool],
-    ghost tlcs_whole: { behind_tlcs q.now.h.bytes (length marks.now) ≤ length w.now },
-    ghost few: { length marks.now ≤ 255 },
+// Whether a record is that of a tracked TLC.
+#[tactic(auto, using(fiber_choice::proofs::EntriesLaws::record_part))]
+fn is_record_of(record: &[u8], tracked: &[u8]) -> bool
+    ensures { result ≡ same record.now (tracked_record tracked.now) }
+{
+    record == part_of(tracked, TRACKED_RECORD, tracked.len())
 }
 
-// Whether the records that stand of a witness are those of the tracked list, one for one.
-fn same_standing(taken: &TakenWitness<'_>) -> bool
-    ensures { result ≡ same_lists (standing taken.now.q.now.h.bytes taken.now.w.now (length taken.now.marks.now) (marked taken.now.marks.now))
-        (tracked_records (entries (tracked_len taken.now.q.now.h.bytes) taken.now.q.now.tracked.now)) }
+// Whether the records that stand are those of the tracked list, one for one.
+fn same_standing(q: &Checked<'_>, records: &Records<'_>) -> bool
+    ensures { result ≡ same_lists (standing_of records.now) (tracked_records (entries (tracked_len q.now.h.bytes) q.now.tracked.now)) }
 {
-    let q = taken.q;
-    let w = taken.w;
-    let size = q.h.record_len();
-    let mut from = 2;
-    let mut others = tracked_tlcs(q.h, q.tracked);
-    for settled in taken.marks {
-        if !*settled {
-            let Some(other) = others.next() else {
-                return false;
-            };
-            if w[from..from + size] != other[TRACKED_RECORD..] {
-                return false;
-            }
-        }
-        from += size;
-    }
-    others.next().is_none()
+    let standing = *records;
+    standing.standing == q.tracked_count()
+        && standing
+            .zip(tracked_tlcs(q.h, q.tracked))
+            .all(|(record, tracked)| is_record_of(record, tracked))
 }
 
 // Where the TLC that stands at a place was among those of the witness.
-#[tactic(auto, using(fiber_choice::proofs::SettlementsLaws::placing_end, fiber_choice::proofs::SettlementsLaws::placing_gone, fiber_choice::proofs::SettlementsLaws::placing_found, fiber_choice::proofs::SettlementsLaws::placing_more))]
-fn first_of(marks: &[bool], place: usize) -> usize
-    ensures { result ≡ get_or (S.unsettled (marked marks.now) 0 (length marks.now)) place 0 }
+fn first_of(marks: &[bool], place: usize) -> Option<usize>
+    ensures { result ≡ slice_get (S.unsettled (marked marks.now) 0 (length marks.now)) place }
 {
-    let mut left = place;
-    for (i, settled) in marks.iter().enumerate() {
-        if !*settled {
-            if left == 0 {
-                return i;
-            }
-            left -= 1;
-        }
-    }
-    0
+    marks
+        .iter()
+        .enumerate()
+        .filter_map(|(i, settled)| if *settled { None } else { Some(i) })
+        .nth(place)
 }
 
-// Where the record of the choice is in the witness.
-#[tactic(auto, using(fiber_choice::proofs::SettlementsLaws::place_small), unfolding(fiber_choice::specs::Settlements::later_place))]
-fn later_place(taken: &TakenWitness<'_>, choice: Choice) -> usize
-    ensures { result ≡ S.later_place taken.now.q.now.h.bytes (S.unsettled (marked taken.now.marks.now) 0 (length taken.now.marks.now)) choice }
+// Where the record of the choice is in the witness. Behind the last that stands it would be the first, as the definition has it, which no caller asks: what
+// is chosen is one of the tracked TLCs, and as many stand.
+#[tactic(auto, using(fiber_choice::proofs::SettlementsLaws::place_small, fiber_choice::proofs::SettlementsLaws::place_found), unfolding(fiber_choice::specs::Settlements::later_place))]
+fn later_place(h: HashLen, records: &Records<'_>, choice: Choice) -> usize
+    ensures { result ≡ S.later_place h.bytes (S.unsettled (marked records.now.marks.now) 0 (length records.now.marks.now)) choice }
 {
     match choice {
         Choice::Share(_) => 0,
-        Choice::Tlc { place, way: _ } => {
-            let q = taken.q;
-            2 + first_of(taken.marks, place) * q.h.record_len()
-        }
+        Choice::Tlc { place, way: _ } => 2
+            + first_of(records.marks, place).unwrap_or(0) * h.record_len(),
     }
 }
 
@@ -103,27 +80,26 @@ fn is_share_of(share: &[u8], key: &[u8]) -> bool
 }
 
 // Our share and the other one: ours is local with for_remote.
-fn ours_of<'a>(for_remote: bool, shares: &Shares<'a>) -> &'a [u8]
-    ensures { result.now ≡ cond for_remote shares.now.local.now shares.now.remote.now }
+fn sides<'a>(for_remote: bool, shares: &Shares<'a>) -> (&'a [u8], &'a [u8])
+    ensures ours { result.0.now ≡ cond for_remote shares.now.local.now shares.now.remote.now }
+    ensures other { result.1.now ≡ cond for_remote shares.now.remote.now shares.now.local.now }
 {
     if for_remote {
-        shares.local
+        (shares.local, shares.remote)
     } else {
-        shares.remote
+        (shares.remote, shares.local)
     }
 }
 
 // Rows 12, 20 and 21.
-#[tactic(auto, using(fiber_witness::proofs::UpdateLaws::counted), unfolding(fiber_choice::specs::Settlements::later_ready))]
-fn later_ready(taken: &TakenWitness<'_>, ours: &[u8]) -> Result<(), NoChoice>
-    ensures { result ≡ S.later_ready (request_by taken.now.q.now)
-        (standing taken.now.q.now.h.bytes taken.now.w.now (length taken.now.marks.now) (marked taken.now.marks.now)) ours.now }
+#[tactic(auto, using(fiber_witness::proofs::LeavingLaws::standing_count), unfolding(fiber_choice::specs::Settlements::later_ready))]
+fn later_ready(q: &Checked<'_>, records: &Records<'_>, ours: &[u8]) -> Result<(), NoChoice>
+    ensures { result ≡ S.later_ready (request_by q.now) (standing_of records.now) ours.now }
 {
-    let q = taken.q;
-    if MOST_TLCS < count_standing(taken.marks) {
+    if MOST_TLCS < records.standing {
         return Err(NoChoice::Refused(Refusal::TooManyTlcs));
     }
-    if !same_standing(taken) {
+    if !same_standing(q, records) {
         return Err(NoChoice::Wait(Wait::ListDiffers));
     }
     if !is_share_of(ours, q.settlement.local_key) {
@@ -156,31 +132,17 @@ fn later_choice(q: &Checked<'_>, last: bool) -> Result<Chosen, Wait>
 }
 
 // What follows the witness's own unlocks: the rows before the walk, the walk, and what is handed out.
-fn later_state(
-    taken: &TakenWitness<'_>,
-    shares: &Shares<'_>,
-    out: &mut [u8],
-) -> Result<Decision, NoChoice>
-    ensures { Gives (S.later_state (request_by taken.now.q.now) out.old
-        (standing taken.now.q.now.h.bytes taken.now.w.now (length taken.now.marks.now) (marked taken.now.marks.now))
-        (S.unsettled (marked taken.now.marks.now) 0 (length taken.now.marks.now)) shares.now.remote.now shares.now.local.now) result out.new }
+fn later_state(q: &Checked<'_>, left: &StateLeft<'_>, out: &mut [u8]) -> Result<Decision, NoChoice>
+    ensures { Gives (S.later_state (request_by q.now) out.old (standing_of left.now.records)
+        (S.unsettled (marked left.now.records.marks.now) 0 (length left.now.records.marks.now)) left.now.shares.remote.now left.now.shares.local.now) result out.new }
 {
-    let q = taken.q;
-    let ours = ours_of(q.for_remote, shares);
-    let other = ours_of(!q.for_remote, shares);
+    let shares = left.shares;
+    let (ours, other) = sides(q.for_remote, &shares);
     let last = is_last(other);
-    later_ready(taken, ours)?;
+    later_ready(q, &left.records, ours)?;
     let chosen = later_choice(q, last)?;
-    let shares = *shares;
-    let lent = Lent {
-        h: q.h,
-        args: q.args,
-        tracked: q.tracked,
-        preimages: q.preimages,
-        shares,
-        last,
-    };
-    let place = later_place(taken, chosen.choice);
+    let lent = Lent { q, shares, last };
+    let place = later_place(q.h, &left.records, chosen.choice);
     write_output(&lent, chosen, None, place, out)
 }
 
@@ -188,11 +150,7 @@ fn later_state(
 pub fn choose_later(q: &Checked<'_>, w: &[u8], out: &mut [u8]) -> Result<Decision, NoChoice>
     ensures { Gives (S.later (request_by q.now) w.now out.old) result out.new }
 {
-    let layout = witness::read(q.h.bytes, w)?;
-    let mut all = UNMARKED;
-    let marks = &mut all[..layout.n];
-    let unlocked = take_unlocks(w, layout.first_unlock, marks)?;
-    let shares = Shares::at(w, layout.share_place).left(unlocked);
-    let taken = TakenWitness { q: &*q, w, marks };
-    later_state(&taken, &shares, out)
+    let mut marks = UNMARKED;
+    let left = state_left(q.h, w, &mut marks)?;
+    later_state(q, &left, out)
 }

@@ -1,5 +1,5 @@
 // The walk over the tracked TLCs, of either settlement. It ends at the first chosen; where none is, its wait is for the first that is still pending.
-ghost use Rattle.std.specs.Prelude.{◌≡◌, ◌≤◌, length};
+ghost use Rattle.std.specs.Prelude.{◌≡◌, length, None};
 ghost use Rattle.fiber_choice.specs.Request.{settlement_tlcs, tracked_tlcs, pairs};
 ghost use Rattle.fiber_choice.specs.Settlements.{walked_by, wait_by};
 ghost use Rattle.fiber_choice.specs.Verdicts as S;
@@ -15,28 +15,26 @@ use fiber_step::step::step;
 use fiber_step::wait::wait_at;
 use std::ops::ControlFlow;
 
-// The first place at which the count stayed, as known behind the TLC at a place, with so many pending before it and so many left: as long as pending fell for
-// every TLC, the next place.
+// The first place at which the count stayed, as known behind the TLC at a place, with so many pending before it and so many left.
 #[tactic(auto, unfolding(fiber_choice::specs::inner::Noting::noted))]
-fn noted(place: usize, before: usize, left: usize, first: usize) -> usize
-    requires { place ≤ 254 }
+fn noted(place: usize, before: usize, left: usize, first: Option<usize>) -> Option<usize>
     ensures { result ≡ I.noted place before left first }
 {
-    if first == place && left < before {
-        return place + 1;
+    if first.is_none() && before <= left {
+        return Some(place);
     }
     first
 }
 
 // What the walk chooses, or what it leaves pending and notes.
 fn noting(walk: &Walk<'_>) -> ControlFlow<Chosen, Noted>
-    ensures { result ≡ I.noting walk.now.q.now.time 0 (length (tracked_tlcs (request_by walk.now.q.now))) 0 (S.verdicts walk.now.q.now.h.bytes
+    ensures { result ≡ I.noting walk.now.q.now.time 0 (length (tracked_tlcs (request_by walk.now.q.now))) None (S.verdicts walk.now.q.now.h.bytes
         walk.now.q.now.for_remote (settlement_tlcs (request_by walk.now.q.now)) (pairs (request_by walk.now.q.now)) walk.now.stage 0
         (tracked_tlcs (request_by walk.now.q.now))) }
 {
     let q = walk.q;
-    let mut pending = q.tracked.len() / q.h.tracked_len();
-    let mut first = 0;
+    let mut pending = q.tracked_count();
+    let mut first = None;
     for (place, tracked_tlc) in tracked_tlcs(q.h, q.tracked).enumerate() {
         let tracked = TrackedTlc {
             h: q.h,

@@ -4,5 +4,6 @@ pub mod UpdateLaws
 pub mod StridedLaws
 pub mod LeftLaws
 pub mod EdgesLaws
+pub mod LeavingLaws
 pub mod StateLaws
 pub mod UnlocksLaws

@@ -1,21 +1,22 @@
 -- Laws of `specs/inner/Strided.antt`: the records of a witness are an instance, and writing a state from such records.
 -- Assumes nothing.
 use Prim.Native.Nat.{ℕ, zero, suc, ◌+◌, ◌-◌, ◌*◌, ◌≤◌, ◌<◌}
-use native.Mathlib.Nat.{sub-zero, sub-eq-zero_of_le, suc-mul}
+use native.Mathlib.Nat.{sub-zero, suc-mul}
+use native.Mathlib.Numerals.{add-one}
 use native.Mathlib.Omega.{arith}
 use mathlib.Core.Path.{◌≡◌, refl, sym, ap, ◌∙◌}
 use mathlib.Core.Bool.{Bool, true, false, cond}
 use mathlib.Core.List.{List, [], ◌∷◌, ◌++◌, append_assoc, flatten}
-use lib.ListN.{length, get_or, drop, set, length-append}
-use lib.Seq.{sets, length-sets, drop-drop}
+use lib.ListN.{length, get_or, take, drop, set, length-append, length-drop}
+use lib.Seq.{sets, length-sets, drop-cons, drop-drop}
 use Rattle.fiber_bytes.specs.Bytes.{part}
 use Rattle.fiber_bytes.proofs.BytesLaws.{part_length, sets_append, sets_then, one_less}
 use Rattle.fiber_witness.specs.Witness.{record_len, chunks, state_bytes}
-use Rattle.fiber_witness.specs.Update.{keep, share_left, standing, state_left, state_after}
+use Rattle.fiber_witness.specs.Update.{keep, standing}
 use Rattle.std.specs.Prelude.{Some, None, count_by, not}
 use Rattle.fiber_witness.specs.inner.Marks.{Marks, marked, listed}
 use Rattle.fiber_witness.specs.inner.Strided.{strided, unmarked}
-use Rattle.fiber_witness.proofs.UpdateLaws.{marks_marked, marks_set, keep_marked, keep_few, counted_standing}
+use Rattle.fiber_witness.proofs.UpdateLaws.{sets_part, part_between, marked_lem, keep_behind, marks_set, keep_few, counted_standing}
 
 -- ---- the records
 
@@ -41,6 +42,26 @@ strided_records size zero s from = refl
 strided_records size (suc m) s from =
     ap (λ (rs : List (List ℕ)). part s from size ∷ rs) (strided_records size m s (from + size) ∙ ap (chunks size m) (sym (drop-drop size from s)))
 
+-- Of none, none stands; one that is marked is passed, and another is the first that stands.
+module _ (h : ℕ) (s : List ℕ) (from stride : ℕ) (marks : List Bool) where
+  pub unmarked_none : length marks ≡ 0 → unmarked h s from stride (length marks) marks ≡ []
+  unfolding unmarked keep strided
+  unmarked_none e = rw e
+
+  module _ (b : Bool) (bs : List Bool) (e : marks ≡ b ∷ bs) where
+    abbrev next : List (List ℕ)
+    next = unmarked h s (from + stride) stride (length bs) bs
+
+    unmarked_cons : unmarked h s from stride (length marks) marks ≡ cond b next (part s from (record_len h) ∷ next)
+    unfolding unmarked keep strided
+    unmarked_cons = rw (e, sym (marked_lem (b ∷ bs) 0), keep_behind b bs 0 (strided (record_len h) stride (length bs) s (from + stride)))
+
+    pub unmarked_gone : b ≡ true → next ≡ unmarked h s from stride (length marks) marks
+    unmarked_gone f = sym (rw f at unmarked_cons)
+
+    pub unmarked_kept : b ≡ false → unmarked h s from stride (length marks) marks ≡ part s from (record_len h) ∷ next
+    unmarked_kept f = rw f at unmarked_cons
+
 -- the TLCs of a witness that are not marked are those that stand
 pub unmarked_standing : (h : ℕ) (w : List ℕ) (n : ℕ) (marks : List Bool) → unmarked h w 2 (record_len h) n marks ≡ standing h w n (marked marks)
 unfolding unmarked standing
@@ -51,11 +72,6 @@ module _ (h : ℕ) (s : List ℕ) (from stride n : ℕ) (marks : List Bool) wher
   pub unmarked_few : length (unmarked h s from stride n marks) ≤ n
   unfolding unmarked
   unmarked_few = omega (arith, keep_few (marked marks) (strided (record_len h) stride n s from) 0, strided_length (record_len h) stride n s from)
-
-  -- by the list of the marked places
-  pub unmarked_keep : (settled : List ℕ) → Marks marks settled → n ≤ length marks → unmarked h s from stride n marks ≡ keep settled 0 (strided (record_len h) stride n s from)
-  unfolding unmarked
-  unmarked_keep settled m g = keep_marked marks settled m (strided (record_len h) stride n s from) (omega (arith, g, strided_length (record_len h) stride n s from))
 
 -- and the count of the marks that are not set is theirs
 pub unmarked_count : (h : ℕ) (s : List ℕ) (from stride : ℕ) (marks : List Bool) → count_by not marks ≡ length (unmarked h s from stride (length marks) marks)
@@ -71,102 +87,84 @@ pub marks_listed : (marks : List Bool) → Marks marks [] → Marks marks (liste
 unfolding listed
 marks_listed marks m = m
 
--- with two shares, unlocked or not, they are the state left
-pub unmarked_left : (h : ℕ) (w : List ℕ) (n share_place : ℕ) (marks : List Bool) (remote local : Bool)
-    → state_bytes (unmarked h w 2 (record_len h) n marks) (share_left remote (part w share_place 36)) (share_left local (part w (share_place + 36) 36))
-    ≡ state_left h w n share_place (record { settled = marked marks; remote = remote; local = local })
-unfolding state_left state_after standing
-unmarked_left h w n share_place marks remote local = rw (unmarked_standing h w n marks)
+-- ---- writing records, one behind the other
 
--- ---- writing the records that are not marked
+-- The loop that writes them from byte 1 on: to write those that are left, from here, gives what the whole gives.
+pub record Writing (whole out₀ : List ℕ) (rs : List (List ℕ)) (out : List ℕ) (at : ℕ) : Type 0 where
+  pub same : length out ≡ length out₀
+  pub ends : at + length (flatten rs) ≡ 1 + length whole
+  pub writes : sets out at (flatten rs) ≡ sets out₀ 1 whole
 
-module _ (h : ℕ) (s : List ℕ) (from₀ stride n : ℕ) (marks : List Bool) (l : length marks ≡ n) where
-  -- what is left to write: the records from place i on, read from place from
-  unfoldable pub rest : ℕ → ℕ → List ℕ
-  rest from i = flatten (keep (marked marks) i (strided (record_len h) stride (n - i) s from))
+-- before the first, all are left
+pub writing_start : (rs : List (List ℕ)) (out : List ℕ) → Writing (flatten rs) out rs out 1
+writing_start rs out = record { same = refl; ends = refl; writes = refl }
 
-  -- The loop that writes them: to write what is left, from here, gives what the whole gives.
-  pub record Writing (out₀ out : List ℕ) (from at i : ℕ) : Type 0 where
-    pub low : i ≤ n
-    pub room : from + (n - i) * stride + record_len h ≤ length s + stride
-    pub same : length out ≡ length out₀
-    pub ends : at + length (rest from i) ≡ 1 + length (flatten (unmarked h s from₀ stride n marks))
-    pub writes : sets out at (rest from i) ≡ sets out₀ 1 (flatten (unmarked h s from₀ stride n marks))
+module _ {whole out₀ : List ℕ} {rs : List (List ℕ)} {out : List ℕ} {at : ℕ} (c : Writing whole out₀ rs out at) where
+  -- where none is left, all are written
+  pub writing_end : rs ≡ [] → (at ≡ 1 + length whole) × (out ≡ sets out₀ 1 whole)
+  unfolding flatten
+  writing_end e = (omega (arith, rw e at c.ends), rw e at c.writes)
 
-  -- before the first record, all is left
-  pub writing_start : (out : List ℕ) → from₀ + n * stride + record_len h ≤ length s + stride → Writing out out from₀ 1 0
-  unfolding rest unmarked
-  writing_start out g = record { low = omega arith; room = rw sub-zero g; same = refl; ends = rw sub-zero; writes = rw sub-zero }
+  module _ {r : List ℕ} {next : List (List ℕ)} (e : rs ≡ r ∷ next) where
+    more : at + length r + length (flatten next) ≡ 1 + length whole
+    unfolding flatten
+    more = omega (arith, length-append r (flatten next), rw e at c.ends)
 
-  module _ (out₀ out : List ℕ) (from at i : ℕ) (c : Writing out₀ out from at i) where
-    -- behind the last record nothing is left
-    rest_none : n ≤ i → rest from i ≡ []
-    unfolding rest flatten keep strided
-    rest_none g = rw (sub-eq-zero_of_le g)
+    -- there is room for another
+    pub writing_room : at + length r ≤ 1 + length whole
+    writing_room = omega (arith, more)
 
-    -- so all is written
-    pub writing_end : n ≤ i → (at ≡ 1 + length (flatten (unmarked h s from₀ stride n marks))) × (out ≡ sets out₀ 1 (flatten (unmarked h s from₀ stride n marks)))
-    writing_end g = (omega (arith, rw (rest_none g) at c.ends), rw (rest_none g) at c.writes)
+    -- it is written, by a callee that is lent the output from its place on, and those that are left go behind it
+    pub writing_next : at ≤ length out → (ys : List ℕ) → ys ≡ sets (take (length out - at) (drop at out)) 0 r
+        → Writing whole out₀ next (take at out ++ (ys ++ drop (length out - at) (drop at out))) (at + length r)
+    unfolding flatten
+    writing_next f ys d =
+        let all = sets_part out at r ys f d in
+        record {
+          same = ap length all ∙ length-sets out at r ∙ c.same;
+          ends = more;
+          writes = ap (λ (o : List ℕ). sets o (at + length r) (flatten next)) all ∙ sym (sets_append r (flatten next) out at) ∙ rw e at c.writes;
+        }
 
-    module _ (g : i < n) where
-      -- the bytes of one record more
-      room_step : (n - i) * stride ≡ (n - (i + 1)) * stride + stride
-      room_step = ap (λ (m : ℕ). m * stride) (one_less n i g) ∙ suc-mul (n - (i + 1)) stride
+-- the loop that writes those of a list that stand, at the mark of place i
+module _ (h : ℕ) (s : List ℕ) (stride : ℕ) (marks : List Bool) where
+  pub record Putting (whole out₀ out : List ℕ) (from at i : ℕ) : Type 0 where
+    pub low : i ≤ length marks
+    pub room : from + (length marks - i) * stride + record_len h ≤ length s + stride
+    pub writing : Writing whole out₀ (unmarked h s from stride (length (drop i marks)) (drop i marks)) out at
 
-      -- the record at place from is whole
-      pub writing_from : from + record_len h ≤ length s
-      writing_from = omega (arith, c.room, room_step)
+  pub putting_start : (from : ℕ) (out : List ℕ) → from + length marks * stride + record_len h ≤ length s + stride
+      → Putting (flatten (unmarked h s from stride (length marks) marks)) out out from 1 0
+  putting_start from out g = record { low = omega arith; room = rw sub-zero g; writing = writing_start (unmarked h s from stride (length marks) marks) out }
 
-      -- what is left, by the mark of place i
-      rest_cons : (b : Bool) → get_or marks i false ≡ b
-          → rest from i
-          ≡ flatten (cond b (keep (marked marks) (i + 1) (strided (record_len h) stride (n - (i + 1)) s (from + stride)))
-          (part s from (record_len h) ∷ keep (marked marks) (i + 1) (strided (record_len h) stride (n - (i + 1)) s (from + stride))))
-      unfolding rest keep strided Marks
-      rest_cons b m = rw (one_less n i g, sym (marks_marked marks i (omega (arith, l, g))) ∙ m)
+  module _ {whole out₀ out : List ℕ} {from at i : ℕ} (c : Putting whole out₀ out from at i) where
+    pub putting_end : length marks ≤ i → (at ≡ 1 + length whole) × (out ≡ sets out₀ 1 whole)
+    putting_end g = writing_end c.writing (unmarked_none h s from stride (drop i marks) (omega (arith, length-drop i marks)))
+
+    module _ (g : i < length marks) where
+      room_next : from + stride + (length marks - (i + 1)) * stride + record_len h ≤ length s + stride
+      room_next = omega (arith, c.room, ap (λ (m : ℕ). m * stride) (one_less (length marks) i g), suc-mul (length marks - (i + 1)) stride)
+
+      marks_cons : drop i marks ≡ get_or marks i false ∷ drop (i + 1) marks
+      marks_cons = rw add-one (drop-cons marks i false g)
 
       -- a record that is marked is passed
-      pub writing_gone : get_or marks i false ≡ true → Writing out₀ out (from + stride) at (i + 1)
-      unfolding rest
-      writing_gone m =
-          let e : rest from i ≡ rest (from + stride) (i + 1) = rest_cons true m in
-          record {
+      pub putting_gone : get_or marks i false ≡ true → Putting whole out₀ out (from + stride) at (i + 1)
+      putting_gone m = record { low = omega arith; room = room_next; writing = rw (unmarked_gone h s from stride (drop i marks) _ _ marks_cons m) c.writing }
+
+      -- another is written
+      pub putting_kept : get_or marks i false ≡ false → (size : ℕ) → size ≡ record_len h → at ≤ length out
+          → (ys : List ℕ) → ys ≡ sets (take (length out - at) (drop at out)) 0 (take (from + size - from) (drop from s))
+          → Putting whole out₀ (take at out ++ (ys ++ drop (length out - at) (drop at out))) (from + stride) (at + size) (i + 1)
+      putting_kept m size e f ys d =
+          let n : length (part s from (record_len h)) ≡ record_len h = part_length s from (record_len h) (omega (arith, room_next)) in
+          let p : take (from + size - from) (drop from s) ≡ part s from (record_len h) = part_between s from size ∙ ap (part s from) e in
+          rw e
+          (record {
             low = omega arith;
-            room = omega (arith, c.room, room_step);
-            same = c.same;
-            ends = rw e at c.ends;
-            writes = rw e at c.writes;
-          }
-
-      module _ (m : get_or marks i false ≡ false) where
-        -- another is the first of what is left
-        rest_kept : rest from i ≡ part s from (record_len h) ++ rest (from + stride) (i + 1)
-        unfolding rest flatten
-        rest_kept = rest_cons false m
-
-        -- by its length
-        kept_length : length (rest from i) ≡ record_len h + length (rest (from + stride) (i + 1))
-        kept_length =
-            ap length rest_kept
-            ∙ length-append (part s from (record_len h)) (rest (from + stride) (i + 1))
-            ∙ ap (λ (k : ℕ). k + length (rest (from + stride) (i + 1))) (part_length s from (record_len h) writing_from)
-
-        -- it is written, and what is left goes behind it
-        pub writing_kept : (out' : List ℕ) → out' ≡ sets out at (part s from (record_len h)) → Writing out₀ out' (from + stride) (at + record_len h) (i + 1)
-        writing_kept out' e =
-            let R = rest (from + stride) (i + 1) in
-            record {
-              low = omega arith;
-              room = omega (arith, c.room, room_step);
-              same = ap length e ∙ length-sets out at (part s from (record_len h)) ∙ c.same;
-              ends = omega (arith, c.ends, kept_length);
-              writes =
-                  ap (λ (l : List ℕ). sets l (at + record_len h) R) e
-                  ∙ ap (λ (k : ℕ). sets (sets out at (part s from (record_len h))) (at + k) R) (sym (part_length s from (record_len h) writing_from))
-                  ∙ sym (sets_append (part s from (record_len h)) R out at)
-                  ∙ ap (sets out at) (sym rest_kept)
-                  ∙ c.writes;
-            }
+            room = room_next;
+            writing = rw n at (writing_next c.writing (unmarked_kept h s from stride (drop i marks) _ _ marks_cons m) f ys (rw p at d));
+          })
 
 -- ---- a state
 

@@ -1,7 +1,7 @@
 -- Laws of `specs/Update.antt` and `specs/inner/Marks.antt`: the unlocks one by one, the records that stand, and the state left.
 -- Assumes nothing.
 use Prim.Native.Nat.{ℕ, zero, suc, ◌+◌, ◌-◌, ◌*◌, ◌≤◌, ◌<◌}
-use native.Mathlib.Nat.{add-zero, zero-add, add-sub_cancel_left, le_of_suc-le-suc, mul-le-mul_right}
+use native.Mathlib.Nat.{add-zero, zero-add, add-sub_cancel_left, le_of_suc-le-suc}
 use native.Mathlib.Numerals.{add-one}
 use native.Mathlib.Omega.{arith}
 use mathlib.Core.Path.{◌≡◌, refl, sym, ap, subst, ◌∙◌}
@@ -17,9 +17,8 @@ use Rattle.fiber_bytes.proofs.CaseLaws.{by_test}
 use Rattle.std.proofs.lemmas.List.Sums.{sum_by-cons}
 use Rattle.std.specs.Prelude.{Result, Ok, Err, count_by, not}
 use Rattle.fiber_refusal.specs.declared.Refusal.{Refusal}
-use Rattle.fiber_refusal.specs.declared.Refusal.TheVariants.{UnlockUnknown, SettledTwice, OutputShort}
-use Rattle.fiber_types.specs.Records.{Outcome, outcome}
-use Rattle.fiber_types.proofs.RecordsLaws.{outcome_short, outcome_whole}
+use Rattle.fiber_refusal.specs.declared.Refusal.TheVariants.{UnlockUnknown, SettledTwice}
+use Rattle.fiber_types.specs.Records.{outcome}
 use Rattle.fiber_witness.specs.declared.witness.WitnessLayout.{WitnessLayout}
 use Rattle.fiber_witness.specs.declared.shares.UnlockedShares.{UnlockedShares}
 use Rattle.fiber_witness.specs.Witness.{record_len, unlock_len, chunks, member, places, read_witness}
@@ -60,10 +59,15 @@ marked_from_lem (b ∷ bs) i (suc j) =
     go true e = rw (ne_eqb (suc i + j) i (omega arith)) e
     go false e = e
 
+-- the mark of a place, which is false behind the last
+pub marked_lem : (marks : List Bool) (i : ℕ) → get_or marks i false ≡ member i (marked marks)
+unfolding marked
+marked_lem marks i = rw zero-add at (marked_from_lem marks 0 i)
+
 -- marks say what the list of the marked places says
 pub marks_marked : (marks : List Bool) → Marks marks (marked marks)
-unfolding Marks marked
-marks_marked marks i h = rw zero-add at (marked_from_lem marks 0 i)
+unfolding Marks
+marks_marked marks i h = marked_lem marks i
 
 -- a repeat of false has no true
 none_marked : (m i : ℕ) → get_or (replicate m false) i false ≡ false
@@ -130,6 +134,14 @@ pub keep_cons : (s : List ℕ) (rs : List (List ℕ)) (i : ℕ) → i < length r
     → keep s i (drop i rs) ≡ cond (member i s) (keep s (i + 1) (drop (i + 1) rs)) (get_or rs i [] ∷ keep s (i + 1) (drop (i + 1) rs))
 unfolding keep
 keep_cons s rs i h = rw (drop-cons rs i [] h, add-one)
+
+-- what the marks behind the first keep, each one place further on
+pub keep_behind : (b : Bool) (bs : List Bool) (i : ℕ) (rs : List (List ℕ)) → keep (marked (b ∷ bs)) (i + 1) rs ≡ keep (marked bs) i rs
+unfolding keep
+keep_behind b bs i [] = refl
+keep_behind b bs i (r ∷ rs) =
+    let m : member (i + 1) (marked (b ∷ bs)) ≡ member i (marked bs) = rw add-one (sym (marked_lem (b ∷ bs) (suc i)) ∙ marked_lem bs i) in
+    rw (m, keep_behind b bs (i + 1) rs)
 
 -- no more are kept than there are
 pub keep_few : (s : List ℕ) (rs : List (List ℕ)) (i : ℕ) → length (keep s i rs) ≤ length rs
@@ -363,59 +375,6 @@ module _ (h : ℕ) (w : List ℕ) (n share_place : ℕ) (t : Taken) (g : share_p
       (left_length t.remote (part w share_place 36) (part_length w share_place 36 (omega arith)))
       (left_length t.local (part w (share_place + 36) 36) (part_length w (share_place + 36) 36 (omega arith)))
 
--- ---- what follows the reading
-
--- with the marks of all n TLCs, and a count k as `count_standing` gives it
-module _ (h : ℕ) (w : List ℕ) (n : ℕ) (marks : List Bool) (l : length marks ≡ n) (k : ℕ) (f : k ≡ count_by not marks) where
-  -- k stand
-  pub counted : k ≡ length (standing h w n (marked marks))
-  unfolding standing
-  counted = f ∙ counted_standing marks (chunks (record_len h) n (drop 2 w)) (records_length (record_len h) n (drop 2 w) ∙ sym l)
-
-  -- their bytes are no more than those of all n
-  pub counted_room : k * record_len h ≤ n * record_len h
-  counted_room = mul-le-mul_right (record_len h) (omega (arith, counted, standing_few h w n (marked marks)))
-
-  -- they have so many bytes
-  pub counted_flat : behind_tlcs h n ≤ length w → length (flatten (standing h w n (marked marks))) ≡ k * record_len h
-  counted_flat g = standing_length h w n (marked marks) g ∙ ap (λ (j : ℕ). j * record_len h) (sym counted)
-
-  -- and so the state left has so many bytes
-  pub counted_size : (remote local : Bool) → behind_tlcs h n + 72 ≤ length w
-      → length (state_left h w n (behind_tlcs h n) (record { settled = marked marks; remote = remote; local = local })) ≡ 73 + k * record_len h
-  counted_size remote local g =
-      omega (arith, state_length h w n (behind_tlcs h n) (record { settled = marked marks; remote = remote; local = local }) g, counted_flat (omega arith))
-
--- with the answer of `take_unlocks`
-module _ (h : ℕ) (w out : List ℕ) (n share_place first : ℕ) (marks : List Bool) (l : length marks ≡ n) where
-  abbrev ended : Outcome (Result ℕ Refusal)
-  ended = written h w out (take_unlocks n share_place w none (places w first))
-
-  -- row 5 or 6, and nothing is written
-  pub settled_refused : (r : Refusal) → TakesAs (take_unlocks n share_place w none (places w first)) (Err r) marks → (Err r ≡ ended.answer) × (out ≡ ended.bytes)
-  unfolding written
-  settled_refused r j = let f = takes_faulty r marks (unlocks_come n share_place w none (places w first)) j in (rw f, rw f)
-
-  module _ (v : UnlockedShares) (j : TakesAs (take_unlocks n share_place w none (places w first)) (Ok v) marks) where
-    -- the state by the marks is the state by the list; where every unlock is taken, it is written
-    settled_fine : ended ≡ outcome true (state_left h w n share_place (record { settled = marked marks; remote = v.remote; local = v.local })) out
-    unfolding written state_left state_after
-    settled_fine = go (takes_all v marks (unlocks_come n share_place w none (places w first)) j)
-      where
-        go : All n share_place marks v.remote v.local (take_unlocks n share_place w none (places w first))
-            → ended ≡ outcome true (state_left h w n share_place (record { settled = marked marks; remote = v.remote; local = v.local })) out
-        go t = rw (t.is, keep_marked marks t.taken.settled t.says (chunks (record_len h) n (drop 2 w)) (omega (arith, l, records_length (record_len h) n (drop 2 w))), t.remote_is, t.local_is)
-
-    module _ (size : ℕ) (z : length (state_left h w n share_place (record { settled = marked marks; remote = v.remote; local = v.local })) ≡ size) where
-      -- row 13, and nothing is written
-      pub settled_short : length out < size → (Err (OutputShort size) ≡ ended.answer) × (out ≡ ended.bytes)
-      settled_short f = rw settled_fine (outcome_short true _ out refl size z f)
-
-      -- all is written
-      pub settled_written : size ≤ length out → (out' : List ℕ) → out' ≡ sets out 0 (state_left h w n share_place (record { settled = marked marks; remote = v.remote; local = v.local }))
-          → (Ok size ≡ ended.answer) × (out' ≡ ended.bytes)
-      settled_written f out' d = rw settled_fine (outcome_whole true _ out refl size z f out' d)
-
 -- ---- the whole update
 
 module _ (h : ℕ) (w out : List ℕ) where
@@ -429,9 +388,6 @@ module _ (h : ℕ) (w out : List ℕ) where
     updated_read : updated h w out ≡ written h w out (take_unlocks l.n l.share_place w none (places w l.first_unlock))
     unfolding updated unlocked by_read
     updated_read = rw e
-
-    pub updated_whole : updated h w out ≡ written h w out (take_unlocks l.n (behind_tlcs h l.n) w none (places w l.first_unlock))
-    updated_whole = rw (updated_read, ← (read_fine h w l e).tlcs)
 
     -- and its unlocks: turned down, or the state left is written
     pub updated_turned : (r : Refusal) → take_unlocks l.n l.share_place w none (places w l.first_unlock) ≡ faulty r → (Err r ≡ (updated h w out).answer) × (out ≡ (updated h w out).bytes)

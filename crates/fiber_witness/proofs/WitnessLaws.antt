@@ -11,9 +11,10 @@ use lib.Dec.{ltb, leb, eqb}
 use lib.ListN.{length, get_or, take, drop, length-append, length-drop, take-append-drop}
 use lib.Seq.{drop-drop, take_at, drop_at}
 use borrow.Author.Tests.{lt-ltb, le-ltb, le-leb, lt-leb, leb-true}
-use Rattle.fiber_bytes.proofs.BytesLaws.{either, part_length}
+use Rattle.fiber_bytes.proofs.BytesLaws.{part_length}
 use Rattle.fiber_bytes.proofs.CaseLaws.{by_test, by_test₂}
 use Rattle.fiber_types.specs.declared.unlock.Unlock.{Unlock}
+use Rattle.std.proofs.lemmas.Bool.{cases_lt}
 use Rattle.std.specs.Prelude.{Result, Ok, Err}
 use Rattle.fiber_refusal.specs.declared.Refusal.{Refusal}
 use Rattle.fiber_refusal.specs.declared.Refusal.TheVariants.{WitnessShort, TlcCut, SharesCut, NotWell}
@@ -180,7 +181,7 @@ module _ (h : ℕ) (w : List ℕ) (n : ℕ) where
 
     -- the witness ends before the share part: they are fewer than n
     whole_few : length w < behind_tlcs h n → q < n
-    whole_few f = ⊎_elim (λ g. absurd (omega (arith, whole_room, mul-le-mul_right (record_len h) g))) (λ g. g) (either n q)
+    whole_few f = ⊎_elim (λ g. g) (λ g. absurd (omega (arith, whole_room, mul-le-mul_right (record_len h) g))) (cases_lt q n)
 
     -- and the one behind them is cut short
     pub whole_cut : length w < behind_tlcs h n → Err (TlcCut (2 + q * record_len h)) ≡ read_tlcs n h w n 2

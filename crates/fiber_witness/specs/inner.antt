@@ -3,3 +3,4 @@ pub mod Marks
 pub mod Taking
 pub mod Strided
 pub mod Records
+pub mod Leaving

@@ -2,6 +2,7 @@
 // the crates of the upper face: its functions may have a `requires` that their callers meet. Uses the lower face and fiber_bytes.
 #![tactic(auto)]
 
+pub mod left;
 pub mod marks;
 pub mod records;
 pub mod shares;

@@ -1,4 +1,4 @@
-// Records in a list in which they stand a fixed number of bytes apart: those of a witness, or of the tracked TLCs.
+// Records in a list in which they stand a fixed number of bytes apart: those of a witness, or of the tracked TLCs. As an iterator, those of them that stand.
 ghost use Rattle.std.specs.Prelude.{◌≡◌, ◌+◌, ◌*◌, ◌≤◌, length, not, count_by};
 
 use fiber_types::hash_len::HashLen;
@@ -17,4 +17,30 @@ pub struct Records<'a> {
     ghost near: { stride ≤ 130 },
     ghost whole: { from + length marks.now * stride + (65 + h.bytes) ≤ length source.now + stride },
     ghost counted: { standing ≡ count_by not marks.now },
+}
+
+impl<'a> Iterator for Records<'a> {
+    ghost use Rattle.std.specs.Iterator.{YieldsFirstRef, item_count};
+    ghost use Rattle.fiber_witness.specs.inner.Records.{standing_of};
+
+    type Item = &'a [u8];
+
+    ghost next_gives = { YieldsFirstRef standing_of };
+
+    ghost remaining = { item_count standing_of };
+
+    // Passes those that are marked.
+    #[tactic(auto, using(crate::proofs::StridedLaws::unmarked_none, crate::proofs::StridedLaws::unmarked_gone, crate::proofs::StridedLaws::unmarked_kept, crate::proofs::UpdateLaws::part_between))]
+    fn next(&mut self) -> Option<&'a [u8]> {
+        while let Some((settled, others)) = self.marks.split_first() {
+            let at = self.from;
+            self.from += self.stride;
+            self.marks = others;
+            if !*settled {
+                self.standing -= 1;
+                return Some(&self.source[at..at + self.h.record_len()]);
+            }
+        }
+        None
+    }
 }

@@ -15,7 +15,8 @@ pub struct UnlockedShares {
     pub local: bool,
 }
 
-// Each has its key hash and its amount. They are lent, as the marks are: where both were handed on by value, an update of one TLC took 1.6 times as long.
+// Each has its key hash and its amount. They are lent, as the marks are: with shares handed on by value an update of one TLC took 1.6 times as long, and with
+// marks by value more.
 #[derive(Clone, Copy)]
 pub struct Shares<'a> {
     pub remote: &'a [u8],

@@ -18,7 +18,11 @@ pub fn put_record(tlc: &[u8], out: &mut [u8])
     put(out, 0, tlc);
 }
 
-// Writes the records that stand, one behind the other from byte 1 on; answers where they end.
+// Writes the records that stand, one behind the other from byte 1 on; answers where they end. The loop goes over the marks itself: over the iterator,
+// whose own loop then stands inside this one, an update of 250 TLCs took 1.65 times as long, and one of 12 TLCs 1.5 times. Not inlined: among the values of an
+// update it has too few registers, and 16 TLCs or more took 1.1 times as long.
+#[tactic(auto, using(crate::proofs::StridedLaws::putting_start, crate::proofs::StridedLaws::putting_end))]
+#[inline(never)]
 fn put_records(records: &Records<'_>, out: &mut [u8]) -> usize
     requires { 1 + length (flatten (standing_of records.now)) ≤ length out.old }
     ensures value { result ≡ 1 + length (flatten (standing_of records.now)) }
@@ -38,7 +42,8 @@ fn put_records(records: &Records<'_>, out: &mut [u8]) -> usize
     at
 }
 
-// Writes a state to the front of out; answers its length.
+// Writes a state to the front of out; answers its length. The room is asked: whoever calls has turned down an output that is too short, by a length of
+// which this state is a part.
 pub fn put_state(records: &Records<'_>, shares: &Shares<'_>, out: &mut [u8]) -> usize
     requires { 73 + length (flatten (standing_of records.now)) ≤ length out.old }
     ensures { Fronts (state_bytes (standing_of records.now) shares.now.remote.now shares.now.local.now) out.old result out.new }

@@ -22,7 +22,8 @@ pub fn take_unlocks(
     let mut remote = false;
     let mut local = false;
     let mut at = first_unlock;
-    // Where an unlock ends only itself says: an iterator over them would have this loop inside.
+    // By place: where an unlock ends only itself says, and here one that is cut short is the last, where the reader turns it down: one iterator for both would
+    // hand out Results with a place beside each.
     while at < w.len() {
         let b = w[at] as usize;
         if b == UNLOCK_LOCAL {

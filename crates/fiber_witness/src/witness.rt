@@ -16,7 +16,8 @@ pub struct WitnessLayout {
     pub first_unlock: usize,
 }
 
-// The unlocks behind the shares. An unlock that is cut short is turned down.
+// The unlocks behind the shares. An unlock that is cut short is turned down. The count and the place go beside the witness, since they are what is answered
+// with the unlocks, as they are.
 fn read_unlocks(w: &[u8], n: usize, share_place: usize) -> Result<WitnessLayout, Refusal>
     requires { share_place + 72 ≤ length w.now }
     ensures { result ≡ read_unlocks w.now n share_place }
@@ -24,7 +25,8 @@ fn read_unlocks(w: &[u8], n: usize, share_place: usize) -> Result<WitnessLayout,
     let first_unlock = share_place + SHARES;
     let mut at = first_unlock;
     let mut unlock_count = 0;
-    // Where an unlock ends only itself says: an iterator over them would have this loop inside.
+    // By place: where an unlock ends only itself says, and one that is cut short is turned down at its place, so that an iterator's items would be Results
+    // with a place beside each.
     while at < w.len() {
         let u = unlock::read(w, at)?;
         at += u.witness_len();
@@ -38,7 +40,7 @@ fn read_unlocks(w: &[u8], n: usize, share_place: usize) -> Result<WitnessLayout,
     })
 }
 
-// All records have the same size, so that a division tells how many are whole where not all are.
+// All records have the same size, so that a division tells how many are whole where not all are. The count goes beside the witness, as in `read_unlocks`.
 fn read_tlcs(h: HashLen, w: &[u8], n: usize) -> Result<WitnessLayout, Refusal>
     requires { (2 ≤ length w.now) × (n ≤ 255) }
     ensures { result ≡ read_tlcs n h.bytes w.now n 2 }

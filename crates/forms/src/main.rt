@@ -13,6 +13,8 @@ use std::{fs, io};
 use test_lines::{Field, Tally, is_case, unreadable};
 use watchtower::witness;
 
+// Not the kinds of `replay`, which are ten: a line of another kind has no witness and no pairs, and is unreadable here. One type for both programs would
+// name the calls over C in test_lines, and each program would still sort out its own.
 #[derive(Clone, Copy, Debug, PartialEq, Eq)]
 enum Kind {
     Read,

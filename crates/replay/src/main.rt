@@ -15,7 +15,8 @@ use std::collections::BTreeMap;
 use std::{fs, io};
 use test_lines::{Tally, is_case};
 
-// As in `vectors`, but for how a line is read and what is counted apart: these few lines are each program's own.
+// As in `vectors`, but for how a line is read and what is counted apart. One function of test_lines over a closure was tried: in a generic function the check
+// takes no invariant over these lines, so that it could have promised nothing.
 fn tallies(alloc: Global, list: &str) -> io::Result<BTreeMap<Kind, Tally>> {
     let mut tallies = BTreeMap::new(alloc);
     for line in list.lines().filter(|line| is_case(line)) {

@@ -3,20 +3,21 @@
 use mathlib.Core.Path.{◌≡◌, refl, sym, ap, subst, ◌∙◌}
 use mathlib.Core.List.{List, [], ◌∷◌, ◌++◌, append_assoc, append-nil}
 use mathlib.Core.Logic.{⊎_elim}
-use Prim.Native.Nat.{ℕ, zero, suc, ◌+◌, ◌*◌, ◌/◌, ◌%◌, ◌^◌, ◌≤◌, ◌<◌}
-use native.Mathlib.Nat.{add-zero, suc-mul, mul-le-mul}
+use Prim.Native.Nat.{ℕ, zero, suc, ◌+◌, ◌-◌, ◌*◌, ◌/◌, ◌%◌, ◌^◌, ◌≤◌, ◌<◌, min}
+use native.Mathlib.Nat.{suc-mul, mul-le-mul}
 use native.Mathlib.Numerals.{add-one}
 use native.Mathlib.Omega.{arith}
 use lib.ListN.{length, get_or, take, drop, length-append, length-take, length-drop, drop_of_length-le}
-use lib.Seq.{take-append_seam, drop-append_seam, take_all, drop-cons}
+use lib.Seq.{sets, length-sets, take-append_seam, drop-append_seam, take_all, drop-cons}
 use borrow.Author.Tests.{lt-ltb, le-ltb}
 use Rattle.std.proofs.Math.Nat.{add-div_left, mul-div_cancel}
+use Rattle.std.proofs.lemmas.Bool.{cases_lt}
 use Rattle.std.proofs.lemmas.Nat.{div_below}
 use Rattle.std.proofs.lemmas.List.{drop-take, take-take, length-take-le}
 use Rattle.std.proofs.lemmas.Fmt.{AppendsLastDigit, decimal_from_appends, length-decimal-le}
 use Rattle.std.specs.Fmt.{decimal as std_decimal}
 use Rattle.fiber_bytes.specs.Bytes.{part}
-use Rattle.fiber_bytes.proofs.BytesLaws.{either, sets_append}
+use Rattle.fiber_bytes.proofs.BytesLaws.{sets_append, sets_out}
 use Rattle.std.specs.Prelude.{Result, Ok, Err}
 use Rattle.fiber_refusal.specs.declared.Refusal.{Refusal}
 use Rattle.fiber_refusal.specs.declared.Refusal.TheVariants.{WitnessShort, TlcCut, SharesCut, UnlockCut, UnlockUnknown, SettledTwice, LengthZero, ScaledAbove, ArgsShort, NoDelay, TooManyTlcs, OutputShort, NotWell}
@@ -29,41 +30,52 @@ use Rattle.fiber_witness.specs.Witness.{chunks, record_len}
 use Rattle.report.specs.declared.Text.{Text}
 use Rattle.report.specs.Report.{digits_within, decimal, hex, hex_highest, tlc_line, tlc_lines, share_line, refused_text, state_text, reported, ascii, of_input, text_of}
 use Rattle.fiber_witness.proofs.WitnessLaws.{records_none, records_more}
-use Rattle.report.specs.inner.Written.{written, Fits}
+use Rattle.report.specs.inner.Written.{written}
 
 -- ---- writes, one behind the other
 
-pub written_len : (t : Text) (s : List ℕ) → (written t s).len ≡ t.len + length s
+-- the output's length is what it was
+pub written_room : (t : Text) (s : List ℕ) → length (written t s).out.now ≡ length t.out.now
 unfolding written
-written_len t s = refl
+written_room t s = length-sets t.out.now t.len s
 
--- a write, and another right behind it
-pub written_more : (t : Text) (a b : List ℕ) → written (written t a) b ≡ written t (a ++ b)
+-- a write, and another right behind it: where the count has stopped there is no room either
+pub written_more : (t : Text) (a b : List ℕ) → length t.out.now < 2 ^ 64 → written (written t a) b ≡ written t (a ++ b)
 unfolding written
-written_more t a b = rw (length-append a b, sets_append a b t.out.now t.len) (grind arith)
+written_more t a b h =
+    rw (length-append a b, sets_append a b t.out.now t.len, place) (grind arith)
+  where
+    o : List ℕ
+    o = sets t.out.now t.len a
+
+    place : sets o (t.len + min (length a) (2 ^ 64 - 1 - t.len)) b ≡ sets o (t.len + length a) b
+    place = ⊎_elim
+        (λ g. sets_out b o _ (omega (arith, length-sets t.out.now t.len a)) ∙ sym (sets_out b o _ (omega (arith, length-sets t.out.now t.len a))))
+        (λ g. let e : min (length a) (2 ^ 64 - 1 - t.len) ≡ length a = omega arith in ap (λ (n : ℕ). sets o (t.len + n) b) e)
+        (cases_lt (2 ^ 64 - 1 - t.len) (length a))
 
 written_none : (t : Text) → written t [] ≡ t
 unfolding written
-written_none t = rw (add-zero t.len)
+written_none t =
+    let e : t.len + min 0 (2 ^ 64 - 1 - t.len) ≡ t.len = omega arith in
+    ap (λ (n : ℕ). record t { len = n }) e
+
+-- behind nothing, no text that the program prints reaches the end of the count
+pub written_len : (t : Text) (s : List ℕ) → t.len ≡ 0 → length s ≤ 65536 → (written t s).len ≡ length s
+unfolding written
+written_len t s e h = omega arith
 
 -- what is left to write behind the text so far gives what the whole gives
 abbrev pub Left : Text → List ℕ → Text → List ℕ → Type 0
-Left t s o all = written t s ≡ written o all
+Left t s o all = (length t.out.now < 2 ^ 64) × (written t s ≡ written o all)
 
-module _ (t : Text) (a b : List ℕ) (o : Text) (all : List ℕ) (e : Left t (a ++ b) o all) where
-  -- where there is room for the whole there is for the front of what is left
-  pub left_fits : Fits o all → Fits t a
-  left_fits f =
-      let l = ap (λ (u : Text). u.len) e in
-      omega (arith, l, written_len t (a ++ b), written_len o all, length-append a b)
-
-  -- that front is written
-  pub left_more : {u : Text} → u ≡ written t a → Left u b o all
-  left_more f = rw (f, written_more t a b) e
+-- its front is written
+pub left_more : (t : Text) (a b : List ℕ) (o : Text) (all : List ℕ) → Left t (a ++ b) o all → {u : Text} → u ≡ written t a → Left u b o all
+left_more t a b o all e f = rw f (rw (written_room t a) e.0, rw (written_more t a b e.0) e.1)
 
 -- nothing is left
 pub left_none : (t o : Text) (all : List ℕ) → Left t [] o all → t ≡ written o all
-left_none t o all e = sym (written_none t) ∙ e
+left_none t o all e = sym (written_none t) ∙ e.1
 
 -- ---- digits
 
@@ -80,9 +92,9 @@ digits_short : (f x : ℕ) → length (digits_within f x) ≤ f
 unfolding digits_within
 digits_short zero x = omega arith
 digits_short (suc f) x = ⊎_elim
-    (λ h. rw (le-ltb x 10 h) (omega (arith, length-append (digits_within f (x / 10)) ((48 + x % 10) ∷ []), digits_short f (x / 10))))
     (λ h. rw (lt-ltb x 10 h) (omega arith))
-    (either 10 x)
+    (λ h. rw (le-ltb x 10 h) (omega (arith, length-append (digits_within f (x / 10)) ((48 + x % 10) ∷ []), digits_short f (x / 10))))
+    (cases_lt x 10)
 
 -- 20 digits at most
 pub decimal_short : (x : ℕ) → length (decimal x) ≤ 20
@@ -148,9 +160,6 @@ pub share_line_is : (word s : List ℕ) → length s ≡ 36 → share_line word 
 unfolding share_line
 share_line_is word s h = rw (take_all 16 (drop 20 s) (omega (arith, length-drop 20 s)))
 
-pub share_line_length : (word s : List ℕ) → length s ≡ 36 → length (share_line word s) ≡ 2 + length word + length (hex (take 20 s)) + length (hex_highest (drop 20 s))
-share_line_length word s h = rw (share_line_is word s h) (simp length-append (omega arith))
-
 -- the lines of the whole records in l, from the place i on
 abbrev pub lines : ℕ → ℕ → List ℕ → List ℕ
 lines size i l = tlc_lines i (chunks size (length l / size) l)
@@ -194,13 +203,8 @@ state_text_is h s f =
     let all : m / record_len h ≡ n = mul-div_cancel n (omega arith) in
     rw (len, all, chunks_take (record_len h) n (drop 1 s))
 
-pub state_text_length : (h : ℕ) (s : List ℕ) → 73 + get_or s 0 0 * record_len h ≤ length s
-    → length (state_text h s) ≡ 6 + length (decimal (get_or s 0 0)) + length (lines (record_len h) 0 (take (get_or s 0 0 * record_len h) (drop 1 s)))
-    + length (share_line (ascii "remote ") (part s (1 + get_or s 0 0 * record_len h) 36)) + length (share_line (ascii "local ") (part s (1 + get_or s 0 0 * record_len h + 36) 36))
-state_text_length h s f = rw (state_text_is h s f) (simp length-append (omega arith))
-
 -- what a chain of writes needs
-pub ruleset writes = (written_len, written_more, tlc_line_is, tlc_line_length, share_line_is, share_line_length, refused_text_is, refused_text_length, state_text_is, state_text_length)
+pub ruleset writes = (written_room, written_more, tlc_line_is, share_line_is, refused_text_is, state_text_is)
 
 -- ---- the report, by its input
 
@@ -236,7 +240,7 @@ of_some (h ∷ w) buffer = go (of_input (h ∷ w) buffer).answer
 -- what it left is a whole state
 of_left : (input buffer : List ℕ) → LeftCase.Left (get_or input 0 0) (of_input input buffer).bytes (of_input input buffer).answer
 of_left [] buffer = rw (of_none [] buffer refl) tt
-of_left (h ∷ w) buffer = ⊎_elim (λ f. rw (of_taken h w buffer f) (LeftCase.left h w buffer)) (λ f. rw (of_long h w buffer f) tt) (either (1 + length w) 65536)
+of_left (h ∷ w) buffer = ⊎_elim (λ f. rw (of_long h w buffer f) tt) (λ f. rw (of_taken h w buffer f) (LeftCase.left h w buffer)) (cases_lt 65536 (1 + length w))
 
 module _ (input buffer : List ℕ) (len : ℕ) (e : Ok len ≡ (of_input input buffer).answer) where
   pub left_some : 0 < length input

@@ -11,7 +11,7 @@ ghost use Rattle.fiber_bytes.specs.Bytes.{part};
 ghost use Rattle.fiber_witness.specs.Witness.{record_len, chunks};
 ghost use Rattle.fiber_types.specs.Records.{Gives};
 ghost use Rattle.report.specs.Report as S;
-ghost use Rattle.report.specs.inner.Written.{Fits, written};
+ghost use Rattle.report.specs.inner.Written.{written};
 
 use fiber_bytes::{part_of, put};
 use fiber_types::Refusal;
@@ -54,6 +54,7 @@ fn parts(state: &[u8], records_len: usize) -> (&[u8], &[u8], &[u8])
 #[derive(Drop)]
 struct Text<'a> {
     out: &'a mut [u8],
+    // stops at the greatest number, which no text that `report` writes comes near
     len: usize,
 }
 
@@ -61,29 +62,26 @@ impl<'a> Text<'a> {
     // A word, as it stands.
     #[tactic(auto, unfolding(crate::specs::inner::Written::written))]
     fn word(&mut self, word: &[u8])
-        requires { Fits self.old word.now }
         ensures { self.new ≡ written self.old word.now }
     {
         put(self.out, self.len, word);
-        self.len += word.len();
+        self.len = self.len.saturating_add(word.len());
     }
 
     // One character: a copy of so few costs more than its store.
     #[tactic(auto, unfolding(crate::specs::inner::Written::written))]
     fn character(&mut self, character: u8)
-        requires { Fits self.old (character ∷ []) }
         ensures { self.new ≡ written self.old (character ∷ []) }
     {
         if self.len < self.out.len() {
             self.out[self.len] = character;
         }
-        self.len += 1;
+        self.len = self.len.saturating_add(1);
     }
 
     // Two digits to a byte.
     #[tactic(auto, using(crate::proofs::ReportLaws::writes), unfolding(crate::specs::Report::hex))]
     fn hex_byte(&mut self, byte: u8)
-        requires { Fits self.old (S.hex (byte ∷ [])) }
         ensures { self.new ≡ written self.old (S.hex (byte ∷ [])) }
     {
         self.character(hex_digit(byte / 16));
@@ -91,7 +89,6 @@ impl<'a> Text<'a> {
     }
 
     fn hex(&mut self, bytes: &[u8])
-        requires { Fits self.old (S.hex bytes.now) }
         ensures { self.new ≡ written self.old (S.hex bytes.now) }
     {
         for byte in bytes {
@@ -101,7 +98,6 @@ impl<'a> Text<'a> {
 
     // The last byte first, which is a number's highest.
     fn hex_highest(&mut self, bytes: &[u8])
-        requires { Fits self.old (S.hex_highest bytes.now) }
         ensures { self.new ≡ written self.old (S.hex_highest bytes.now) }
     {
         for byte in bytes.iter().rev() {
@@ -111,7 +107,6 @@ impl<'a> Text<'a> {
 
     #[tactic(auto, using(crate::proofs::ReportLaws::decimal_is))]
     fn decimal(&mut self, x: usize)
-        requires { Fits self.old (S.decimal x) }
         ensures { self.new ≡ written self.old (S.decimal x) }
     {
         self.word(Buffer::new().format(x).as_bytes());
@@ -119,7 +114,6 @@ impl<'a> Text<'a> {
 
     #[tactic(auto, using(crate::proofs::ReportLaws::writes))]
     fn tlc_line(&mut self, i: usize, tlc: &[u8])
-        requires { Fits self.old (S.tlc_line i tlc.now) }
         ensures { self.new ≡ written self.old (S.tlc_line i tlc.now) }
     {
         self.word(b"tlc ");
@@ -132,7 +126,6 @@ impl<'a> Text<'a> {
     // The lines of records of size bytes each.
     fn tlc_lines(&mut self, tlcs: &[u8], size: usize)
         requires size_is_positive { 0 < size }
-        requires fits { Fits self.old (S.tlc_lines 0 (chunks size (length tlcs.now / size) tlcs.now)) }
         ensures { self.new ≡ written self.old (S.tlc_lines 0 (chunks size (length tlcs.now / size) tlcs.now)) }
     {
         for (i, tlc) in tlcs.chunks_exact(size).enumerate() {
@@ -143,7 +136,6 @@ impl<'a> Text<'a> {
     #[tactic(auto, using(crate::proofs::ReportLaws::writes))]
     fn share_line(&mut self, word: &[u8], share: &[u8])
         requires whole { length share.now ≡ 36 }
-        requires fits { Fits self.old (S.share_line word.now share.now) }
         ensures { self.new ≡ written self.old (S.share_line word.now share.now) }
     {
         let (key, amount) = share.split_at(SHARE_AMOUNT);
@@ -156,7 +148,6 @@ impl<'a> Text<'a> {
 
     #[tactic(auto, using(crate::proofs::ReportLaws::writes))]
     fn refused(&mut self, number: usize, place: usize)
-        requires { Fits self.old (S.refused_text number place) }
         ensures { self.new ≡ written self.old (S.refused_text number place) }
     {
         self.word(b"refused ");
@@ -171,7 +162,8 @@ impl<'a> Text<'a> {
     fn state(&mut self, h: usize, state: &[u8])
         requires whole { (h ≤ 32) × (73 + get_or state.now 0 0 * record_len h ≤ length state.now) }
         requires at_front { self.old.len ≡ 0 }
-        ensures { self.new ≡ written self.old (S.state_text h state.now) }
+        ensures text { self.new ≡ written self.old (S.state_text h state.now) }
+        ensures len { self.new.len ≡ length (S.state_text h state.now) }
     {
         let size = RECORD_FIXED + h;
         let n = usize::from(state[0]);
@@ -187,8 +179,9 @@ impl<'a> Text<'a> {
     // What an input comes to, the update into the buffer.
     fn outcome(&mut self, input: &[u8], buffer: &mut [u8])
         requires { self.old.len ≡ 0 }
-        ensures { (self.new ≡ written self.old (S.reported input.now buffer.old).answer)
-            × (buffer.new ≡ (S.reported input.now buffer.old).bytes) }
+        ensures text { self.new ≡ written self.old (S.reported input.now buffer.old).answer }
+        ensures len { self.new.len ≡ length (S.reported input.now buffer.old).answer }
+        ensures buffer { buffer.new ≡ (S.reported input.now buffer.old).bytes }
     {
         match updated(input, buffer) {
             Ok(len) => self.state(usize::from(input[0]), part_of(buffer, 0, len)),

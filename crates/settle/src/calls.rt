@@ -60,7 +60,8 @@ fn write_some(rt: &HostRuntime, bytes: &[u8]) -> Result<usize>
     made_again(rt, || rt.write_some(bytes))
 }
 
-// Reads until the input ends or buf is full, and answers how many bytes now stand at the start of buf.
+// Reads until the input ends or buf is full, and answers how many bytes now stand at the start of buf. Beside `read_full` of test_lines, which a program
+// does not use: a read that was interrupted is made again here.
 pub fn read_all(rt: &HostRuntime, buf: &mut [u8]) -> Result<usize>
     ensures { IfOk result (λ n. n ≤ length buf.new) }
 {

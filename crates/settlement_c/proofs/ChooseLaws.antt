@@ -1,12 +1,18 @@
 -- Laws of `specs/Choose.antt`: the numbers of a key and of a delay.
 -- Assumes nothing.
 use mathlib.Core.Path.{◌≡◌, refl}
-use mathlib.Core.List.{[], ◌∷◌}
-use Rattle.std.specs.Prelude.{Option, Some, None}
+use mathlib.Core.Bool.{Bool, true, false}
+use mathlib.Core.List.{List, [], ◌∷◌}
+use Rattle.std.proofs.Common.{ℕ, Bor}
+use Rattle.std.specs.Prelude.{Option, Some, None, is_some, unwrap_or, option_copied}
+use Rattle.std.specs.Bool.{then_some}
 use lib.ListN.{get_or}
 use Rattle.fiber_choice.specs.declared.kinds.Key.{Key}
 use Rattle.fiber_choice.specs.declared.kinds.Key.TheVariants as KeyCase
 use Rattle.fiber_since.specs.declared.epoch.Epoch.{Epoch}
+use Rattle.fiber_choice.specs.Request.{Request}
+use Rattle.fiber_choice.specs.Choice.{choice_of}
+use Rattle.fiber_choice.proofs.ChoiceLaws.{choice_unseen}
 use Rattle.settlement_c.specs.Choose.{key_numbers, delay_numbers}
 
 -- each number where it stands
@@ -19,3 +25,9 @@ pub delay_four : (d : Option Epoch) → delay_numbers d ≡ get_or (delay_number
 unfolding delay_numbers
 delay_four None = refl
 delay_four (Some e) = refl
+
+-- a choice whose witness is handed on with the flag alone
+pub choice_flagged : (q : Request) (is_later : Bool) (w : Bor (List ℕ)) (out : List ℕ)
+    → choice_of q (is_some (then_some is_later w)) (unwrap_or (option_copied (then_some is_later w)) []) out ≡ choice_of q is_later w.now out
+choice_flagged q true w out = refl
+choice_flagged q false w out = choice_unseen q [] w.now out

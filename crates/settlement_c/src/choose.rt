@@ -4,27 +4,25 @@ ghost use Rattle.c_answer.specs.Answers.{answered, Leaves};
 ghost use Rattle.settlement_c.specs.Choose as S;
 ghost use Rattle.settlement_c.specs.inner.Numbers as I;
 
-use crate::written::HIGHEST_FLAG;
+use crate::written::{flag, too_short};
 use c_answer::front::{accept, refuse};
 use fiber_types::epoch::Epoch;
-use fiber_types::layout::{UNLOCK_LOCAL, UNLOCK_REMOTE};
 use fiber_types::tlc::Amount;
-use watchtower::choice::{Choice, Decision, Key, NoChoice, Request, SettlementData, Side, Way};
+use watchtower::choice::{Choice, Decision, Key, NoChoice, Request, SettlementData, Way};
 use watchtower::{choice, wait};
 
 // The bytes that the answer takes.
 pub const CHOOSE_ANSWER: usize = 152;
 
+// Numbers of what the choice holds are made by functions: a `From` between types of two other crates cannot stand here.
+//
 // What the choice is: 0 a share, 1 a TLC by timeout, 2 a TLC by a preimage; the unlock's byte; the pair's place.
-#[tactic(auto, using(fiber_choice::proofs::ByteLaws::byte_remote, fiber_choice::proofs::ByteLaws::byte_local, fiber_choice::proofs::ByteLaws::byte_tlc), unfolding(crate::specs::inner::Numbers::choice_numbers, crate::specs::Choose::kind_number, crate::specs::Choose::pair_number))]
+#[tactic(auto, using(fiber_choice::proofs::ByteLaws::byte_tlc), unfolding(crate::specs::inner::Numbers::choice_numbers, crate::specs::Choose::kind_number, crate::specs::Choose::pair_number))]
 fn choice_numbers(choice: Choice) -> [u64; 3]
     ensures { result ≡ I.choice_numbers choice }
 {
     match choice {
-        Choice::Share(side) => match side {
-            Side::Remote => [0, UNLOCK_REMOTE as u64, 0],
-            Side::Local => [0, UNLOCK_LOCAL as u64, 0],
-        },
+        Choice::Share(side) => [0, u64::from(side.byte()), 0],
         Choice::Tlc { place, way } => match way {
             Way::Timeout => [1, place as u64, 0],
             Way::Preimage(pair_place) => [2, place as u64, pair_place as u64],
@@ -98,7 +96,7 @@ fn answer_choice(answer: &mut [u8], chosen: Result<Decision, NoChoice>) -> u64
 }
 
 // Chooses an unlock. With is_later the settlement is a later one, and its witness is looked at.
-#[tactic(auto, using(c_answer::proofs::AnswersLaws::answered_out), unfolding(crate::specs::Choose::choose_call, c_answer::specs::Answers::flag_call, c_answer::specs::Answers::call, c_answer::specs::Answers::is_flag))]
+#[tactic(auto, using(c_answer::proofs::AnswersLaws::answered_out, crate::proofs::ChooseLaws::choice_flagged), unfolding(crate::specs::Choose::choose_call, c_answer::specs::Answers::flag_call, c_answer::specs::Answers::call, c_answer::specs::Answers::is_flag))]
 pub fn fiber_settlement_choose(
     h: u64,
     for_remote: u8,
@@ -132,17 +130,15 @@ pub fn fiber_settlement_choose(
         result out.new answer.new }
 {
     if answer.len() < CHOOSE_ANSWER {
-        return 14;
+        return too_short();
     }
-    if HIGHEST_FLAG < for_remote {
-        return refuse(answer, 14, 0);
-    }
-    if HIGHEST_FLAG < is_later {
-        return refuse(answer, 14, 0);
-    }
+    let (for_remote, is_later) = match (flag(for_remote), flag(is_later)) {
+        (Ok(for_remote), Ok(is_later)) => (for_remote, is_later),
+        (Err(r), _) | (_, Err(r)) => return refuse(answer, r.number(), r.place()),
+    };
     let request = Request {
         h: h as usize,
-        for_remote: for_remote == 1,
+        for_remote,
         time,
         header: Epoch {
             number: header_number,
@@ -171,6 +167,6 @@ pub fn fiber_settlement_choose(
         tracked,
         preimages,
     };
-    let chosen = choice::choose(&request, is_later == 1, witness, out);
+    let chosen = choice::choose(&request, is_later.then_some(witness), out);
     answer_choice(answer, chosen)
 }

@@ -2,7 +2,7 @@
 ghost use Rattle.c_answer.specs.Answers.{Leaves};
 ghost use Rattle.settlement_c.specs.Settlement as S;
 
-use crate::written::{HIGHEST_FLAG, UPDATE_ANSWER, answer_written};
+use crate::written::{UPDATE_ANSWER, answer_written, flag, too_short};
 use c_answer::front::refuse;
 use fiber_types::tlc::Amount;
 use watchtower::choice::SettlementData;
@@ -21,12 +21,13 @@ pub fn fiber_settlement_tlc_record(
         result out.new answer.new }
 {
     if answer.len() < UPDATE_ANSWER {
-        return 14;
+        return too_short();
     }
-    if HIGHEST_FLAG < for_remote {
-        return refuse(answer, 14, 0);
-    }
-    let written = first::settlement_tlc_witness(h as usize, for_remote == 1, tlc, out);
+    let for_remote = match flag(for_remote) {
+        Ok(for_remote) => for_remote,
+        Err(r) => return refuse(answer, r.number(), r.place()),
+    };
+    let written = first::settlement_tlc_witness(h as usize, for_remote, tlc, out);
     answer_written(answer, written)
 }
 
@@ -50,11 +51,12 @@ pub fn fiber_settlement_first_state(
         result out.new answer.new }
 {
     if answer.len() < UPDATE_ANSWER {
-        return 14;
+        return too_short();
     }
-    if HIGHEST_FLAG < for_remote {
-        return refuse(answer, 14, 0);
-    }
+    let for_remote = match flag(for_remote) {
+        Ok(for_remote) => for_remote,
+        Err(r) => return refuse(answer, r.number(), r.place()),
+    };
     let lent = SettlementData {
         tlcs,
         local_amount: Amount {
@@ -68,6 +70,6 @@ pub fn fiber_settlement_first_state(
         local_key,
         remote_key,
     };
-    let written = first::settlement_data_witness(h as usize, for_remote == 1, &lent, out);
+    let written = first::settlement_data_witness(h as usize, for_remote, &lent, out);
     answer_written(answer, written)
 }

@@ -5,6 +5,7 @@ ghost use Rattle.fiber_sha256.specs.Sha256 as Sha256;
 ghost use Rattle.c_answer.specs.Answers.{Leaves};
 ghost use Rattle.settlement_c.specs.Lower as S;
 
+use crate::written::too_short;
 use c_answer::front::{accept, put_front, refuse};
 use fiber_bytes::put;
 use fiber_types::due::is_due;
@@ -59,7 +60,7 @@ pub fn fiber_settlement_scale(
     ensures { Leaves (S.scale_call number index length numerator denominator answer.old) result [] answer.new }
 {
     if answer.len() < SCALE_ANSWER {
-        return 14;
+        return too_short();
     }
     let delay = Epoch {
         number,
@@ -90,7 +91,7 @@ pub fn fiber_settlement_is_due(
         current_number current_index current_length answer.old) result [] answer.new }
 {
     if answer.len() < IS_DUE_ANSWER {
-        return 14;
+        return too_short();
     }
     let header = Epoch {
         number: header_number,
@@ -108,8 +109,7 @@ pub fn fiber_settlement_is_due(
         length: current_length,
     };
     match is_due(header, delay, current) {
-        Ok(true) => accept(answer, &[1]),
-        Ok(false) => accept(answer, &[0]),
+        Ok(due) => accept(answer, &[u64::from(due)]),
         Err(r) => refuse(answer, r.number(), r.place()),
     }
 }
@@ -120,7 +120,7 @@ pub fn fiber_settlement_expiry(since: u64, answer: &mut [u8]) -> u64
     ensures { Leaves (S.expiry_call since answer.old) result [] answer.new }
 {
     if answer.len() < EXPIRY_ANSWER {
-        return 14;
+        return too_short();
     }
     match absolute_expiry(since) {
         Some(ms) => accept(answer, &[1, ms]),
@@ -134,7 +134,7 @@ pub fn fiber_settlement_key_hash(key: &[u8], answer: &mut [u8]) -> u64
     ensures { Leaves (S.key_hash_call key.now answer.old) result [] answer.new }
 {
     if answer.len() < KEY_HASH_ANSWER {
-        return 14;
+        return too_short();
     }
     match key_hash(key) {
         Ok(hash) => {

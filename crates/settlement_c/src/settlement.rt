@@ -3,7 +3,7 @@ ghost use Rattle.std.specs.Prelude.{[]};
 ghost use Rattle.c_answer.specs.Answers.{Leaves};
 ghost use Rattle.settlement_c.specs.Settlement as S;
 
-use crate::written::{UPDATE_ANSWER, answer_written};
+use crate::written::{UPDATE_ANSWER, answer_written, too_short};
 use c_answer::front::{accept, refuse};
 use watchtower::{update, witness};
 
@@ -16,7 +16,7 @@ pub fn fiber_settlement_read(h: u64, w: &[u8], answer: &mut [u8]) -> u64
     ensures { Leaves (S.read_call h w.now answer.old) result [] answer.new }
 {
     if answer.len() < READ_ANSWER {
-        return 14;
+        return too_short();
     }
     match witness::read(h as usize, w) {
         Ok(layout) => accept(
@@ -38,7 +38,7 @@ pub fn fiber_settlement_update(h: u64, w: &[u8], out: &mut [u8], answer: &mut [u
     ensures { Leaves (S.update_call h w.now out.old answer.old) result out.new answer.new }
 {
     if answer.len() < UPDATE_ANSWER {
-        return 14;
+        return too_short();
     }
     let written = update::update(h as usize, w, out);
     answer_written(answer, written)

@@ -87,14 +87,15 @@ pub fn unhex(s: &[u8], out: &mut [u8]) -> usize
     ensures out_after { out.new ≡ sets out.old 0 (S.hex_bytes (length s.now / 2) s.now 0) }
 {
     let n = s.len() / 2;
-    // By place: the digits of a byte are at twice its place, and fewer bytes may have room than there are.
+    // By place: of what is written through a part that an iterator lends the library says nothing.
     for i in 0..n.min(out.len()) {
         out[i] = hex_at(s, 2 * i);
     }
     n
 }
 
-// The bytes that s stands for.
+// The bytes that s stands for. Not by the crate hex, which turns down an odd digit and a byte that is none: by `hex_at`, as `agrees` and `unhex` read,
+// so that all three take whatever a line has, and in the same way.
 pub fn decode(alloc: Global, s: &[u8]) -> Result<Vec<u8>, AllocError>
     ensures { IfOk result (λ v. v.items ≡ S.hex_bytes (length s.now / 2) s.now 0) }
 {

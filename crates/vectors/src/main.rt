@@ -88,7 +88,7 @@ impl<'a> Vector<'a> {
     }
 }
 
-// As in `replay`, but for how a line is read and what is counted apart: these few lines are each program's own.
+// As in `replay`, but for how a line is read and what is counted apart; the line there says why it is no function of test_lines.
 fn tallies(alloc: Global, list: &str) -> io::Result<BTreeMap<Hash, Tally>> {
     let mut tallies = BTreeMap::new(alloc);
     for line in list.lines().filter(|line| is_case(line)) {

@@ -1,5 +1,5 @@
 // The choice of an unlock: what may be chosen, and one operation for a first and a later settlement.
-ghost use Rattle.std.specs.Prelude.{◌≡◌};
+ghost use Rattle.std.specs.Prelude.{◌≡◌, [], is_some, unwrap_or, option_copied};
 ghost use Rattle.fiber_choice.specs.Request.{request_of, valid_request, delay_of};
 ghost use Rattle.fiber_types.specs.Records.{Gives};
 ghost use Rattle.fiber_choice.specs.Choice as S;
@@ -49,23 +49,20 @@ fn valid_request(h: HashLen, q: &Request<'_>) -> bool
         && within_bits(q.current)
 }
 
-// Chooses an unlock for a first settlement, or with is_later for a later one whose witness is given, and hands it out: the
-// unlock, the state before it and the new args go to the front of out. Flag and witness are no Option: over C both come as they are,
-// and a first settlement's witness may be any bytes.
-pub fn choose(
-    q: &Request<'_>,
-    is_later: bool,
-    witness: &[u8],
-    out: &mut [u8],
-) -> Result<Decision, NoChoice>
-    ensures { Gives (S.choice_of (request_of q.now) is_later witness.now out.old) result out.new }
+// Chooses an unlock and hands it out: for a later settlement, whose witness is given, or for a first one, which has none. The unlock, the state before it
+// and the new args go to the front of out.
+pub fn choose(q: &Request<'_>, witness: Option<&[u8]>, out: &mut [u8]) -> Result<Decision, NoChoice>
+    ensures { Gives (S.choice_of (request_of q.now)
+        (is_some witness.entry) (unwrap_or (option_copied witness.entry) []) out.old)
+        result out.new }
 {
     let h = HashLen::try_from(q.h)?;
     if !valid_request(h, q) {
         return Err(NoChoice::Refused(Refusal::NotWell));
     }
     let full = delay_of(q.args)?;
-    let checked = Checked {
+    // Lent here, to both settlements alike: what it says of its fields is then shown once.
+    let checked = &Checked {
         h,
         for_remote: q.for_remote,
         time: q.time,
@@ -76,43 +73,26 @@ pub fn choose(
         tracked: q.tracked,
         preimages: q.preimages,
     };
-    if is_later {
-        choose_later(&checked, witness, out)
-    } else {
-        choose_first(&checked, full, out)
+    match witness {
+        Some(witness) => choose_later(checked, witness, out),
+        None => choose_first(checked, full, out),
     }
 }
 
-// A part of the witness in a later settlement, of the tracked list in a first one. The flag is the one that `choose` was asked with.
-#[tactic(auto, unfolding(fiber_choice::specs::Choice::record_part))]
-fn record_part<'a>(
-    is_later: bool,
-    place: usize,
-    len: usize,
-    witness: &'a [u8],
-    tracked: &'a [u8],
-) -> &'a [u8]
-    ensures { result.now ≡ S.record_part is_later place len witness.now tracked.now }
-{
-    if is_later {
-        return part_of(witness, place, len);
-    }
-    part_of(tracked, place, len)
-}
-
-// The record of the chosen TLC, as a part of the witness or of the tracked list. For a share, a wait or a refusal it is the
+// The record of the chosen TLC, as a part of the witness in a later settlement, of the tracked list in a first one. For a share, a wait or a refusal it is the
 // empty part at that slice's start.
-#[tactic(auto, unfolding(fiber_choice::specs::Choice::record_of))]
+#[tactic(auto, unfolding(fiber_choice::specs::Choice::record_of, fiber_choice::specs::Choice::record_part))]
 pub fn record_of<'a>(
-    is_later: bool,
+    witness: Option<&'a [u8]>,
     answer: &Result<Decision, NoChoice>,
-    witness: &'a [u8],
     tracked: &'a [u8],
 ) -> &'a [u8]
-    ensures { result.now ≡ S.record_of is_later answer.now witness.now tracked.now }
+    ensures { result.now ≡ S.record_of
+        (is_some witness.entry) answer.now (unwrap_or (option_copied witness.entry) []) tracked.now }
 {
+    let records = witness.unwrap_or(tracked);
     match answer {
-        Ok(decision) => record_part(is_later, decision.place, decision.len, witness, tracked),
-        Err(_) => record_part(is_later, 0, 0, witness, tracked),
+        Ok(decision) => part_of(records, decision.place, decision.len),
+        Err(_) => part_of(records, 0, 0),
     }
 }

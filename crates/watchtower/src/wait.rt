@@ -1,4 +1,5 @@
-// Number and place of what a choice waits for: rows 20 to 25.
+// Number and place of what a choice waits for: rows 20 to 25. Functions and no methods: `Wait` is declared in fiber_choice, below the face, where no number
+// is handed out; `wait::number(w)` is as plain as `w.number()`, and the two keep their path and their edits.
 ghost use Rattle.std.specs.Prelude.{◌≡◌};
 ghost use Rattle.fiber_choice.specs.Waits as S;
 

@@ -3,7 +3,7 @@
 use Prim.Native.Nat.{ℕ, suc, ◌+◌, ◌-◌, ◌*◌, ◌/◌, ◌≤◌, ◌<◌}
 use native.Mathlib.Omega.{arith}
 use mathlib.Core.Path.{◌≡◌, refl, ap, sym, ◌∙◌}
-use mathlib.Core.Bool.{Bool, true, false, cond}
+use mathlib.Core.Bool.{Bool, true, false, cond, false≢true}
 use mathlib.Core.List.{List}
 use mathlib.Core.Logic.{⊎_elim}
 use lib.Dec.{eqb, lit<}
@@ -11,15 +11,18 @@ use lib.ListN.{length, get_or, take, drop, length-take, length-drop}
 use lib.Seq.{get_or-take, get_or-drop, drop-drop}
 use borrow.Author.Tests.{le-leb, lt-leb}
 use Rattle.std.specs.Prelude.{Option, Some, None, Result, Err}
-use Rattle.std.specs.Option.{ok_or}
+use Rattle.std.specs.Option.{ok_or, MatchOption}
+use Rattle.std.proofs.lemmas.Bool.{cases_lt}
+use Rattle.std.proofs.lemmas.Option.{MatchOption-at_none, MatchOption-at_some}
+use denote.Bor.{Bor}
 use Rattle.fiber_refusal.specs.declared.Refusal.{Refusal}
-use Rattle.fiber_bytes.proofs.BytesLaws.{either}
 use Rattle.fiber_refusal.specs.declared.Refusal.TheVariants.{TlcCut, SharesCut, UnlockCut}
 use Rattle.fiber_types.specs.HashLen.{valid_hash_len}
 use Rattle.fiber_types.specs.Records.{witness_len}
 use Rattle.fiber_witness.specs.Witness.{record_len, unlock_len, places, read_unlocks, read_tlcs, read_witness, whole, cut_at}
 use Rattle.fiber_witness.specs.inner.Strided.{behind_tlcs}
 use Rattle.fiber_witness.proofs.WitnessLaws.{unlock_long, places_cons, cut_passed, cut_short, Reading, reading_start, reading_end, whole_cut, shares_cut, shares_whole, witness_tlcs}
+use Rattle.witness_reader.specs.declared.WitnessReader.{WitnessReader}
 use Rattle.witness_reader.specs.Reader.{taken, left}
 
 -- ---- what is taken and left
@@ -37,15 +40,15 @@ module _ (s : List ℕ) (n : ℕ) where
   -- and so the other way around
   pub none_taken : taken s n ≡ None → length s < n
   none_taken e = ⊎_elim
-      (λ h. let z : ◌≡◌ {A = Option (List ℕ)} (Some (take n s)) None = sym (takes h).0 ∙ e in absurd (let y : ◌≡◌ {A = ℕ} 0 1 = cc in omega arith))
       (λ h. h)
-      (either n (length s))
+      (λ h. let z : ◌≡◌ {A = Option (List ℕ)} (Some (take n s)) None = sym (takes h).0 ∙ e in absurd (false≢true cc))
+      (cases_lt (length s) n)
 
   pub some_taken : (part rest : List ℕ) → (taken s n ≡ Some part) × (left s n ≡ rest) → (n ≤ length s) × (part ≡ take n s) × (rest ≡ drop n s)
   some_taken part rest e = ⊎_elim
+      (λ h. let z : ◌≡◌ {A = Option (List ℕ)} None (Some part) = sym (takes_none h) ∙ e.0 in absurd (false≢true cc))
       (λ h. (h, (let z : ◌≡◌ {A = Option (List ℕ)} (Some (take n s)) (Some part) = sym (takes h).0 ∙ e.0 in cc), sym e.1 ∙ (takes h).1))
-      (λ h. let z : ◌≡◌ {A = Option (List ℕ)} None (Some part) = sym (takes_none h) ∙ e.0 in absurd (let y : ◌≡◌ {A = ℕ} 0 1 = cc in omega arith))
-      (either n (length s))
+      (cases_lt (length s) n)
 
 -- ---- an unlock, taken in two parts
 
@@ -132,64 +135,85 @@ rest_less s t e = omega (arith, ap length e.1 ∙ length-drop (unlock_len s 0) s
 
 -- ---- a witness, taken in three parts: two counts, the TLCs, two shares
 
-module _ (h size : ℕ) (w counts tlcs : List ℕ) (k : valid_hash_len h ≡ true) (e : size ≡ record_len h) (first : (taken w 2 ≡ Some counts) × (left w 2 ≡ tlcs)) where
+-- what `take` says of its answer, n bytes of s or nothing
+abbrev pub Take : List ℕ → ℕ → Option (Bor (List ℕ) × WitnessReader) → Type 0
+Take s n o = MatchOption o (taken s n ≡ None) (λ p. (taken s n ≡ Some p.0.now) × (left s n ≡ p.1.remaining.now))
+
+pub take_none : (s : List ℕ) (n : ℕ) {o : Option (Bor (List ℕ) × WitnessReader)} → Take s n o → o ≡ None → length s < n
+take_none s n t e = none_taken s n (MatchOption-at_none _ _ e t)
+
+take_some : (s : List ℕ) (n : ℕ) {o : Option (Bor (List ℕ) × WitnessReader)} {part : Bor (List ℕ)} {rest : WitnessReader} → Take s n o → o ≡ Some (part, rest)
+    → (n ≤ length s) × (part.now ≡ take n s) × (rest.remaining.now ≡ drop n s)
+take_some s n {o} {part} {rest} t e = some_taken s n part.now rest.remaining.now (MatchOption-at_some _ _ _ e t)
+
+-- the two counts of a witness of a channel whose hashes have h bytes, whose records have so many bytes, and what is left behind them
+pub record Counts (h size : ℕ) (w : List ℕ) (counts : Bor (List ℕ)) (tlcs : WitnessReader) : Type 0 where
+  pub hash : valid_hash_len h ≡ true
+  pub record_size : size ≡ record_len h
+  pub long : 2 ≤ length w
+  pub front : counts.now ≡ take 2 w
+  pub behind : tlcs.remaining.now ≡ drop 2 w
+
+pub counts_taken : (h size : ℕ) (w : List ℕ) {o : Option (Bor (List ℕ) × WitnessReader)} {counts : Bor (List ℕ)} {tlcs : WitnessReader}
+    → valid_hash_len h ≡ true → size ≡ record_len h → Take w 2 o → o ≡ Some (counts, tlcs) → Counts h size w counts tlcs
+counts_taken h size w k e t some =
+    let z = take_some w 2 t some in
+    record { hash = k; record_size = e; long = z.0; front = z.1; behind = z.2 }
+
+module _ {h size : ℕ} {w : List ℕ} {counts : Bor (List ℕ)} {tlcs : WitnessReader} (first : Counts h size w counts tlcs) where
   abbrev n : ℕ
-  n = get_or counts 1 0
+  n = get_or counts.now 1 0
 
   -- the TLCs' bytes, and the place behind them
   bytes_lem : n * size ≡ n * record_len h
-  bytes_lem = ap (λ (m : ℕ). n * m) e
+  bytes_lem = ap (λ (m : ℕ). n * m) first.record_size
 
-  tlcs_length : length w - 2 ≡ length tlcs
-  tlcs_length =
-      let p = some_taken w 2 counts tlcs first in
-      sym (length-drop 2 w) ∙ ap length (sym p.2)
+  tlcs_length : length w - 2 ≡ length tlcs.remaining.now
+  tlcs_length = sym (length-drop 2 w) ∙ ap length (sym first.behind)
 
   -- the count is one of the first two bytes
-  pub counts_there : 1 < length counts
-  counts_there =
-      let p = some_taken w 2 counts tlcs first in
-      omega (arith, ap length p.1, length-take 2 w, p.0)
+  pub counts_there : 1 < length counts.now
+  counts_there = omega (arith, ap length first.front, length-take 2 w, first.long)
 
   to_witness : read_tlcs n h w n 2 ≡ read_witness h w
   to_witness =
-      let p = some_taken w 2 counts tlcs first in
-      let f : n ≡ get_or w 1 0 = ap (λ (l : List ℕ). get_or l 1 0) p.1 ∙ get_or-take 2 w 1 0 (lit< tt) in
-      ap (λ (m : ℕ). read_tlcs m h w m 2) f ∙ witness_tlcs h w k p.0
+      let f : n ≡ get_or w 1 0 = ap (λ (l : List ℕ). get_or l 1 0) first.front ∙ get_or-take 2 w 1 0 (lit< tt) in
+      ap (λ (m : ℕ). read_tlcs m h w m 2) f ∙ witness_tlcs h w first.hash first.long
 
-  pub read_cut : taken tlcs (n * size) ≡ None → Err (TlcCut (2 + (length tlcs / size) * size)) ≡ read_witness h w
+  pub read_cut : taken tlcs.remaining.now (n * size) ≡ None → Err (TlcCut (2 + (length tlcs.remaining.now / size) * size)) ≡ read_witness h w
   read_cut g =
-      let p = some_taken w 2 counts tlcs first in
-      let f : length w < behind_tlcs h n = omega (arith, none_taken tlcs (n * size) g, tlcs_length, bytes_lem) in
-      rw (← tlcs_length, e) (whole_cut h w n ((length w - 2) / record_len h) refl p.0 f) ∙ to_witness
+      let f : length w < behind_tlcs h n = omega (arith, none_taken tlcs.remaining.now (n * size) g, tlcs_length, bytes_lem) in
+      rw (← tlcs_length, first.record_size) (whole_cut h w n ((length w - 2) / record_len h) refl first.long f) ∙ to_witness
 
-  module _ (part shares : List ℕ) (second : (taken tlcs (n * size) ≡ Some part) × (left tlcs (n * size) ≡ shares)) where
+  module _ {part shares : List ℕ} (second : (taken tlcs.remaining.now (n * size) ≡ Some part) × (left tlcs.remaining.now (n * size) ≡ shares)) where
+    behind : (n * size ≤ length tlcs.remaining.now) × (part ≡ take (n * size) tlcs.remaining.now) × (shares ≡ drop (n * size) tlcs.remaining.now)
+    behind = some_taken tlcs.remaining.now (n * size) part shares second
+
     room : behind_tlcs h n ≤ length w
-    room = omega (arith, (some_taken w 2 counts tlcs first).0, (some_taken tlcs (n * size) part shares second).0, tlcs_length, bytes_lem)
+    room = omega (arith, first.long, behind.0, tlcs_length, bytes_lem)
 
     shares_are : shares ≡ drop (2 + n * size) w
-    shares_are =
-        (some_taken tlcs (n * size) part shares second).2
-        ∙ (ap (drop (n * size)) (some_taken w 2 counts tlcs first).2 ∙ drop-drop (n * size) 2 w)
+    shares_are = behind.2 ∙ (ap (drop (n * size)) first.behind ∙ drop-drop (n * size) 2 w)
 
     shares_length : length shares ≡ length w - behind_tlcs h n
     shares_length = ap length shares_are ∙ (length-drop (2 + n * size) w ∙ ap (λ (m : ℕ). length w - (2 + m)) bytes_lem)
 
-    pub read_unshared : (place : ℕ) → place ≡ 2 + n * size → taken shares 72 ≡ None → Err (SharesCut place) ≡ read_witness h w
-    read_unshared place f g = rw (f, e) (shares_cut h w n room (omega (arith, none_taken shares 72 g, shares_length, room))) ∙ to_witness
+    module _ {o' : Option (Bor (List ℕ) × WitnessReader)} (t' : Take shares 72 o') where
+      pub read_unshared : (place : ℕ) → place ≡ 2 + n * size → o' ≡ None → Err (SharesCut place) ≡ read_witness h w
+      read_unshared place f g = rw (f, first.record_size) (shares_cut h w n room (omega (arith, take_none shares 72 t' g, shares_length, room))) ∙ to_witness
 
-    module _ (both unlocks : List ℕ) (third : (taken shares 72 ≡ Some both) × (left shares 72 ≡ unlocks)) where
-      shares_room : behind_tlcs h n + 72 ≤ length w
-      shares_room = omega (arith, (some_taken shares 72 both unlocks third).0, shares_length, room)
+      module _ {both : Bor (List ℕ)} {unlocks : WitnessReader} (some' : o' ≡ Some (both, unlocks)) where
+        third : (72 ≤ length shares) × (both.now ≡ take 72 shares) × (unlocks.remaining.now ≡ drop 72 shares)
+        third = take_some shares 72 t' some'
 
-      pub unlocks_are : (2 + n * size + 72 ≤ length w) × (unlocks ≡ drop (2 + n * size + 72) w)
-      unlocks_are = (
-        omega (arith, shares_room, bytes_lem),
-        (some_taken shares 72 both unlocks third).2 ∙ (ap (drop 72) shares_are ∙ drop-drop 72 (2 + n * size) w),
-      )
+        shares_room : behind_tlcs h n + 72 ≤ length w
+        shares_room = omega (arith, third.0, shares_length, room)
 
-      pub read_whole : read_unlocks w n (2 + n * size) ≡ read_witness h w
-      read_whole = rw e (shares_whole h w n room shares_room) ∙ to_witness
+        pub unlocks_are : (2 + n * size + 72 ≤ length w) × (unlocks.remaining.now ≡ drop (2 + n * size + 72) w)
+        unlocks_are = (omega (arith, shares_room, bytes_lem), third.2 ∙ (ap (drop 72) shares_are ∙ drop-drop 72 (2 + n * size) w))
+
+        pub read_whole : read_unlocks w n (2 + n * size) ≡ read_witness h w
+        read_whole = rw first.record_size (shares_whole h w n room shares_room) ∙ to_witness
 
 -- why nothing was taken is the refusal that stands for it
 pub refused : {A : Type 0} (o : Option A) (r q : Refusal) → ◌≡◌ {A = Result A Refusal} (Err q) (ok_or o r) → o ≡ None → q ≡ r

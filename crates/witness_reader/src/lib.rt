@@ -62,7 +62,8 @@ impl<'a> WitnessReader<'a> {
     }
 }
 
-// The unlocks to the end, of a witness with n TLCs. Each is at the place where what is left begins.
+// The unlocks to the end, of a witness with n TLCs. Each is at the place where what is left begins. n and the shares' place are the caller's, which
+// reads the counts; they are no layout yet, since a layout has the unlocks counted.
 fn read_unlocks(
     w: &[u8],
     n: usize,
@@ -74,7 +75,7 @@ fn read_unlocks(
 {
     let mut left = unlocks;
     let mut unlock_count = 0;
-    // Where an unlock ends only itself says: an iterator over them would have this loop inside.
+    // Where an unlock ends only itself says: an iterator's items would be Results with a place beside each.
     while !left.is_empty() {
         let Some(next) = left.pass_unlock() else {
             return Err(Refusal::UnlockCut(w.len() - left.remaining.len()));

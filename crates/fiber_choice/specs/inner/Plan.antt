@@ -35,7 +35,7 @@ plan_of (ChoiceCase.Tlc place WayCase.Timeout) =
 plan_of (ChoiceCase.Tlc place (WayCase.Preimage pair_place)) =
     record { byte = choice_byte (ChoiceCase.Tlc place (WayCase.Preimage pair_place)); pair = Some pair_place; settled = Some place; unlocked = record { remote = false; local = false } }
 
--- a choice whose place is among n TLCs
+-- A choice whose place is among n TLCs: of a choice and of a list, or of a byte, so that no field of a choice can say it.
 unfoldable pub Below : ℕ → Choice → Type 0
 Below n (ChoiceCase.Share side) = Unit {0}
 Below n (ChoiceCase.Tlc place way) = place < n

@@ -21,6 +21,3 @@ pub returns : goal.returns
 returns c =
     let e : c.loop-i.i ≡ 8 = omega arith in
     rw e at c.loop-i.invariant.1.1
-
-pub eight_steps-next-requires : goal.eight_steps-next-requires
-eight_steps-next-requires c = (omega arith, c.table-k.ensures)

@@ -13,7 +13,7 @@ loop-place-init c =
     let i = c.into_iter-place-iterator.ensures.into_iter_gives in
     let e = ap (λ it. left (enumerate_source it)) i ∙ ap left c.enumerate-place-items.ensures.source ∙ c.tracked_tlcs.ensures in
     let n = ap enumerate_count i ∙ c.enumerate-place-items.ensures.count in
-    ((tt, tt, inl (omega (arith, n, ap length e, c.args.walk.now.few))), tt, rw n (walking_start _ _ _ _ _ _ _ _ _ _ (omega (arith, c.tracked_len.ensures)) e))
+    ((tt, tt, inl (omega (arith, n, ap length e, c.args.walk.now.few))), tt, rw n (walking_start _ _ _ _ _ _ _ _ _ _ c.tracked_count-pending.ensures e))
 
 pub invariant_of-tracked : goal.invariant_of-tracked
 invariant_of-tracked c = record { whole = omega (arith, (walking_at _ _ _ _ _ _ _ _ _ _ _ _ _ c.loop-place.invariant.2 _ _ c.in-Some.ensures.steps.0).whole) }

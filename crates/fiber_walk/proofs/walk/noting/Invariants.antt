@@ -1,5 +1,5 @@
 -- To walk on from a place, with so many pending, gives what the whole walk gives.
-use Rattle.std.specs.Prelude.{length}
+use Rattle.std.specs.Prelude.{length, None}
 use Rattle.std.specs.Iterator.Adapters.{enumerate_source, enumerate_count}
 use Rattle.fiber_first.specs.inner.Left.{left}
 use Rattle.fiber_choice.specs.Entries.{tracked_len}
@@ -16,5 +16,5 @@ invariant-loop-place l =
     (goal.iterator-loop-place).can_next l.place-iterator ×
     (goal.iterator-loop-place).is_finite l.place-iterator ×
     Walking q.h q.for_remote q.time (settlement_tlcs q) (pairs q) l.walk.stage (tracked_len q.h) q.tracked
-    (noting q.time 0 (length (tracked_tlcs q)) 0 (verdicts q.h q.for_remote (settlement_tlcs q) (pairs q) l.walk.stage 0 (tracked_tlcs q)))
+    (noting q.time 0 (length (tracked_tlcs q)) None (verdicts q.h q.for_remote (settlement_tlcs q) (pairs q) l.walk.stage 0 (tracked_tlcs q)))
     l.pending l.first (left (enumerate_source l.place-iterator)) (enumerate_count l.place-iterator)

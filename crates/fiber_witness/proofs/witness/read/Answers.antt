@@ -1,13 +1,12 @@
 -- The tests in order: the hash length, the two counts, and the TLCs.
 use mathlib.Core.Path.{◌∙◌}
-use Rattle.std.proofs.lemmas.Result.{err_from_is_err_and}
+use Rattle.fiber_refusal.proofs.PassedLaws.{passed_on}
 use Rattle.fiber_witness.proofs.WitnessLaws.{witness_unknown, witness_short, witness_tlcs}
 use Rattle.fiber_witness.proofs.witness.read.Goals as goal
 
 pub returns-in_err-h : goal.returns-in_err-h
 returns-in_err-h c =
-    let p = err_from_is_err_and c.from_residual.result c.from_residual.ensures.1 in
-    rw (p.1, p.2, c.in_err-h.ensures.1) (witness_unknown _ _ c.in_err-h.ensures.0)
+    rw (passed_on _ c.from_residual.ensures.1, c.in_err-h.ensures.1) (witness_unknown _ _ c.in_err-h.ensures.0)
 
 pub returns-then-w-lt2 : goal.returns-then-w-lt2
 returns-then-w-lt2 c = rw (← c.in_ok-h.ensures) (witness_short _ _ c.in_ok-h.h.valid c.if-w-lt2.true)

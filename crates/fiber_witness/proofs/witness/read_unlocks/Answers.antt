@@ -2,7 +2,7 @@
 -- An unlock has more than one byte, so what is left of the witness falls.
 use mathlib.Core.Path.{sym, ◌∙◌}
 use native.Mathlib.Omega.{arith}
-use Rattle.std.proofs.lemmas.Result.{err_from_is_err_and}
+use Rattle.fiber_refusal.proofs.PassedLaws.{passed_on}
 use Rattle.fiber_witness.proofs.WitnessLaws.{reading_start, reading_less, reading_more, reading_cut, reading_end}
 use Rattle.fiber_witness.proofs.witness.read_unlocks.Goals as goal
 
@@ -25,8 +25,7 @@ loop-at-smaller c =
 
 pub returns-in_err-u : goal.returns-in_err-u
 returns-in_err-u c =
-    let p = err_from_is_err_and c.from_residual.result c.from_residual.ensures.1 in
-    rw (p.1, p.2) (reading_cut _ _ _ _ _ c.loop-at.invariant (omega arith) _ (sym c.read.ensures ∙ c.in_err-u.was))
+    rw (passed_on _ c.from_residual.ensures.1) (reading_cut _ _ _ _ _ c.loop-at.invariant (omega arith) _ (sym c.read.ensures ∙ c.in_err-u.was))
 
 pub returns : goal.returns
 returns c = reading_end _ _ _ _ _ c.loop-at.invariant c.loop-at-test.false

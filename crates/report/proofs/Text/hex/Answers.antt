@@ -1,12 +1,7 @@
 -- The next byte's digits, and then those behind it.
 use Rattle.std.proofs.Common.{rules}
-use Rattle.report.proofs.ReportLaws.{left_fits, left_more, left_none, hex_turn, hex_end}
+use Rattle.report.proofs.ReportLaws.{left_more, left_none, hex_turn, hex_end}
 use Rattle.report.proofs.Text.hex.Goals as goal
-
-pub hex_byte-requires : goal.hex_byte-requires
-hex_byte-requires c =
-    let l = c.loop-byte in
-    left_fits l.self _ _ _ _ (rw (hex_turn c.args.bytes.now l.byte-index (search rules)) at l.invariant) c.requires
 
 pub loop-byte-preserved : goal.loop-byte-preserved
 loop-byte-preserved c =

@@ -1,12 +1,7 @@
 -- The last byte's digits, and then those of the bytes before it.
 use Rattle.std.proofs.Common.{rules}
-use Rattle.report.proofs.ReportLaws.{left_fits, left_more, left_none, highest_turn, highest_end}
+use Rattle.report.proofs.ReportLaws.{left_more, left_none, highest_turn, highest_end}
 use Rattle.report.proofs.Text.hex_highest.Goals as goal
-
-pub hex_byte-requires : goal.hex_byte-requires
-hex_byte-requires c =
-    let l = c.loop-byte in
-    left_fits l.self _ _ _ _ (rw (highest_turn l.byte-iterator.iter.rest.now _ _ (c.in-Some.ensures.steps)) at l.invariant.2) c.requires
 
 pub loop-byte-preserved : goal.loop-byte-preserved
 loop-byte-preserved c =

@@ -1,13 +1,7 @@
 -- The next record's line, and then those behind it.
 use Rattle.std.proofs.Common.{rules, ◌∙◌}
-use Rattle.report.proofs.ReportLaws.{left_fits, left_more, left_none, lines_turn, lines_end}
+use Rattle.report.proofs.ReportLaws.{left_more, left_none, lines_turn, lines_end}
 use Rattle.report.proofs.Text.tlc_lines.Goals as goal
-
-pub tlc_line-requires : goal.tlc_line-requires
-tlc_line-requires c =
-    let i = c.loop-i.invariant in
-    let s = c.in-Some.ensures.steps in
-    left_fits _ _ _ _ _ (rw (lines_turn c.args.size _ _ _ _ _ _ c.requires.size_is_positive s.0.1.0 (s.0.1.1 ∙ i.2) s.1 s.2) at i.3) c.requires.fits
 
 pub loop-i-preserved : goal.loop-i-preserved
 loop-i-preserved c =

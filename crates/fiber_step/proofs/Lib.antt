@@ -1,2 +1,0 @@
--- The record of a tracked TLC is read.
-pub mod RecordLaws
