@@ -1,10 +1,10 @@
-/* Measures two builds of the port in one process: reader, update and choice over C, batch by batch in turn, so that what else the machine does
- * falls on both. First both must give the same return value, output and answer bytes; but where the build before says 22, the other may say 22 to 25.
+/* Measures two builds of the port in one process: reader, update and choice over C, and the journal's append and walk where both builds have
+ * them, batch by batch in turn, so that what else the machine does falls on both. First both must give the same return value, output and answer bytes; but where the build before says 22, the other may say 22 to 25.
  *
  *   before BEFORE.so NOW.so [PART OF A ROW'S NAME]
  *
  * Both are settlement_c; the hashes and the first state of the latter make the inputs. An answer that grew is compared as far as both have it.
- * Prints a table, for both hash lengths: the least time of a
+ * Prints a table, for both hash lengths (the journal has none: its two columns measure the same call twice): the least time of a
  * call now, in nanoseconds, and before divided by now, by the least and by the median. Exits with 1 where a row is below 0.95 by both. */
 #define _GNU_SOURCE
 #include <dlfcn.h>
@@ -23,14 +23,18 @@ typedef u64 Update(u64, const u8 *, size_t, u8 *, size_t, u8 *, size_t);
 typedef u64 FirstState(u64, u8, u64, u64, u64, u64, const u8 *, size_t, const u8 *, size_t, const u8 *, size_t, u8 *, size_t, u8 *, size_t);
 typedef u64 Choose(u64, u8, u8, u64, u64, u64, u64, u64, u64, u64, u64, u64, u64, u64, const u8 *, size_t, const u8 *, size_t, const u8 *, size_t,
                    const u8 *, size_t, const u8 *, size_t, const u8 *, size_t, const u8 *, size_t, u8 *, size_t, u8 *, size_t);
+typedef u64 Append(u8 *, size_t, u64, const u8 *, size_t, u8, u8, u64, u64, u8 *, size_t);
+typedef u64 Walk(const u8 *, size_t, u64, u8 *, size_t, u8 *, size_t);
 
 enum { BEFORE, NOW, SIDES };
-enum { BATCHES = 2001, BATCH_NS = 50000, MOST_NS = 1200000000, ANSWER = 152, KEY = 33, SETTLEMENT_TLC = 124, PAIR = 64, SHARES = 72 };
+enum { BATCHES = 2001, BATCH_NS = 50000, MOST_NS = 1200000000, ANSWER = 152, KEY = 33, SETTLEMENT_TLC = 124, PAIR = 64, SHARES = 72, ENTRY = 62, CHANNEL = 32 };
 
 static struct {
     Read *read;
     Update *update;
     Choose *choose;
+    Append *append;
+    Walk *walk;
 } sides[SIDES];
 static Hash *ckb_hash, *sha256;
 static FirstState *first_state;
@@ -52,11 +56,12 @@ typedef struct {
 } Bytes;
 
 typedef struct {
-    enum { READ, UPDATE, CHOOSE } operation;
+    enum { READ, UPDATE, CHOOSE, APPEND, WALK } operation;
     u64 h, time, current; /* the current epoch's number; the cell's is 10 */
     bool later;
     u8 local_key[KEY], remote_key[KEY];
     Bytes args, tlcs, tracked, pairs, witness, out, answer;
+    Bytes journal; /* with room for one more entry, which an append writes; out is then compared in its place */
 } Call;
 
 static u64 seed;
@@ -87,6 +92,10 @@ static u64 call(int side, const Call *c) {
         return sides[side].read(c->h, c->witness.bytes, c->witness.len, c->answer.bytes, c->answer.len);
     if (c->operation == UPDATE)
         return sides[side].update(c->h, c->witness.bytes, c->witness.len, c->out.bytes, c->out.len, c->answer.bytes, c->answer.len);
+    if (c->operation == APPEND)
+        return sides[side].append(c->journal.bytes, c->journal.len, c->journal.len - ENTRY, c->local_key, CHANNEL, 3, 1, 7, 5, c->answer.bytes, c->answer.len);
+    if (c->operation == WALK)
+        return sides[side].walk(c->journal.bytes, c->journal.len, c->journal.len - ENTRY, c->out.bytes, c->out.len, c->answer.bytes, c->answer.len);
     return sides[side].choose(c->h, true, c->later, c->time, 10, 0, 1, c->current, 0, 1, 7, 0, 5, 0, c->args.bytes, c->args.len, c->tlcs.bytes, c->tlcs.len,
                               c->local_key, KEY, c->remote_key, KEY, c->tracked.bytes, c->tracked.len, c->pairs.bytes, c->pairs.len, c->witness.bytes,
                               c->witness.len, c->out.bytes, c->out.len, c->answer.bytes, c->answer.len);
@@ -117,13 +126,19 @@ static int ascending(const void *a, const void *b) {
 
 static bool waits_in_walk(u64 number) { return 22 <= number && number <= 25; }
 
+static u8 *new_entry(const Call *c) { return c->journal.bytes + c->journal.len - ENTRY; }
+
 /* Both builds leave the same, on buffers that hold the same before; gives the return values. */
 static void agreed(const char *name, const Call *c, u64 *status) {
     Bytes out = zeros(c->out.len), answer = zeros(c->answer.len);
     for (int side = 0; side < SIDES; side++) {
         memset(c->out.bytes, 0xa5, c->out.len);
         memset(c->answer.bytes, 0xa5, c->answer.len);
+        if (c->operation == APPEND)
+            memset(new_entry(c), 0xa5, ENTRY);
         status[side] = call(side, c);
+        if (c->operation == APPEND)
+            memcpy(c->out.bytes, new_entry(c), ENTRY);
         if (side == BEFORE) {
             memcpy(out.bytes, c->out.bytes, out.len);
             memcpy(answer.bytes, c->answer.bytes, answer.len);
@@ -353,6 +368,33 @@ static void waits(u64 h, bool later) {
     named(operation, "254 TLCs, tracked list differs", &differs);
 }
 
+/* A journal of so many entries, each with its trailer: the start of the one before, all ones for none, and 62. */
+static Bytes grown(size_t entries) {
+    Bytes journal = zeros((entries + 1) * ENTRY);
+    seed = entries;
+    fill(journal.bytes, journal.len);
+    for (size_t i = 0; i < entries; i++) {
+        u8 *trailer = journal.bytes + i * ENTRY + 50;
+        put64(trailer, i ? (u64)(i - 1) * ENTRY : UINT64_MAX);
+        memcpy(trailer + 8, (u8[]){ENTRY, 0, 0, 0}, 4);
+    }
+    return journal;
+}
+
+static void journals(u64 h) {
+    static const struct {
+        size_t entries;
+        const char *what;
+    } sizes[] = {{1, "1 entry"}, {1000, "1,000 entries"}, {65534, "65,534 entries"}, {65535, "65,535 entries"}};
+    for (size_t i = 0; i < sizeof sizes / sizeof *sizes; i++) {
+        Call c = {.operation = APPEND, .h = h, .journal = grown(sizes[i].entries), .answer = zeros(ANSWER), .out = zeros(ENTRY)};
+        named("journal append", sizes[i].what, &c);
+        c.operation = WALK;
+        c.out = zeros(sizes[i].entries * ENTRY);
+        named("journal walk", sizes[i].what, &c);
+    }
+}
+
 /* ---- loading */
 
 static void *library(const char *path) {
@@ -387,6 +429,8 @@ int main(int count, char **args) {
         sides[side].read = (Read *)function(from, "fiber_settlement_read");
         sides[side].update = (Update *)function(from, "fiber_settlement_update");
         sides[side].choose = (Choose *)function(from, "fiber_settlement_choose");
+        sides[side].append = (Append *)dlsym(from, "fiber_journal_append");
+        sides[side].walk = (Walk *)dlsym(from, "fiber_journal_walk");
     }
     wanted = count > 3 ? args[3] : NULL;
     for (u64 h = 20; h <= 32; h += 12) {
@@ -395,6 +439,8 @@ int main(int count, char **args) {
             choices(h, later);
             waits(h, later);
         }
+        if (sides[BEFORE].append && sides[BEFORE].walk && sides[NOW].append && sides[NOW].walk)
+            journals(h);
     }
     print_table();
     return below > 0;

@@ -1,16 +1,18 @@
 /* The settlement core of a Fiber watchtower, over C. Link with libsettlement_c.a (x86-64 Linux; it needs memcpy and memset alone).
  *
  * A tower finds a commitment cell on chain and asks: what can we unlock now, with which key, and what does the next cell look
- * like? fiber_settlement_choose answers that. The rest of this file makes what it is asked with and reads what it answers.
- * Signing, fees, and finding cells stay with the host. "The reference" is the tower of nervosnetwork/fiber at 21c4dfbdbd.
+ * like? fiber_settlement_choose answers that. The rest of this file makes what it is asked with and reads what it answers, and
+ * keeps unlocks on file (fiber_journal_append, fiber_journal_walk). Signing, fees, and finding cells stay with the host. "The
+ * reference" is the tower of nervosnetwork/fiber at 21c4dfbdbd; it has no journal.
  *
  * HOW A CALL GOES. Bytes go in and out as pointer and length; NULL with length 0 is allowed for every one of them. Every function
  * but the two hashes and the version returns a number, 0 for success (table below), and writes its answer to a lent buffer: the
  * number at 0, the place at 8, the fields from 16, each unsigned, 8 bytes, little-endian; fiber_settlement_field reads one. A
  * refusal writes number and place and no other byte, success the fields named here and no byte beyond them. An answer buffer
  * below its size is told by the return value 14 alone, and nothing is written, so NULL with length 0 is told so too. Flags are 0
- * or 1, and any other value is 14. The output and the answer buffer of a call must not overlap each other, nor anything that the
- * call reads. No function keeps anything: each may be called from any thread.
+ * or 1, and any other value is 14; only the flag of a journal's entry is any byte. What a call writes, its output, its answer buffer
+ * and the journal of an append, must not overlap each other, nor anything else that the call reads. No function keeps anything: each
+ * may be called from any thread.
  *
  * THE LOCK ARGS of a commitment cell say most of what has to be known:
  *
@@ -82,7 +84,7 @@
  *    10, 11      not the args of a commitment cell: leave the cell
  *    12          more than 254 TLCs, and no unlock byte can name place 254, since 0xFE is slot remote: tell an operator. A
  *                later settlement goes on as soon as anybody's unlock has settled one of them.
- *    13          give the output as many bytes as the place says and call again
+ *    13          give the output, or the slice of an append, as many bytes as the place says and call again
  *    14          the call is wrong, not the chain: h, a flag, a length or a field. Asking again does not help.
  *    20 to 25    waits; so is every other number of a choice from 20 on: nothing but number and place was written; ask again at the
  *                next tip. A mistake can look like a wait, so look where it stays:
@@ -102,6 +104,11 @@
  *       25       ours by preimage, no stored preimage counts, and it is not given up yet: its expiry has not passed, or in a first
  *                settlement the whole delay is not due. With a preimage that comes it is chosen at once. Where there is one: has its
  *                pair the whole hash, does it have that hash under the TLC's algorithm, and is it the first pair with it?
+ *    40, 41      of a journal alone, and no waits:
+ *       40       the journal has its most entries. Begin another one, with length 0 and bytes of its own; this one can be walked as before.
+ *       41       these bytes are not what appends leave, from the place on: is the length the one that was kept with these bytes? If so, a
+ *                write broke off in the middle, or something wrote over them. The same bytes get the same answer again: "The journal"
+ *                below says what to do.
  */
 #ifndef FIBER_SETTLEMENT_H
 #define FIBER_SETTLEMENT_H
@@ -134,7 +141,7 @@ uint64_t fiber_settlement_abi(void);
 #define FIBER_SETTLEMENT_ARGS_SHORT 10 /* lock args below 36 bytes: 0 */
 #define FIBER_SETTLEMENT_NO_DELAY 11 /* args bytes 20 to 27 no relative epoch since value: 0 */
 #define FIBER_SETTLEMENT_TOO_MANY_TLCS 12 /* above 254 TLCs at the choice, above 255 in a first state: 0 */
-#define FIBER_SETTLEMENT_OUTPUT_SHORT 13 /* output too short: bytes needed */
+#define FIBER_SETTLEMENT_OUTPUT_SHORT 13 /* output too short: bytes needed. Of an append: the new length, which the slice has no room for */
 #define FIBER_SETTLEMENT_NOT_WELL 14 /* an argument with a length or a value that its layout does not have: 0 */
 #define FIBER_SETTLEMENT_LIST_DIFFERS 20 /* wait, the tracked list differs from the TLCs: 0 */
 #define FIBER_SETTLEMENT_NOT_OUR_SHARE 21 /* wait, our share is not there: 0 */
@@ -145,6 +152,9 @@ uint64_t fiber_settlement_abi(void);
                                            its place in tracked */
 #define FIBER_SETTLEMENT_TLC_NO_PREIMAGE 25 /* wait, a TLC by preimage, none that is stored counts, and its expiry has not passed (in a
                                                first settlement: or the whole delay is not due): its place in tracked */
+#define FIBER_JOURNAL_FULL 40 /* an append to 65,535 or more entries: the journal's length */
+#define FIBER_JOURNAL_BROKEN 41 /* no chain of whole entries. A journal of 1 to 61 bytes: 0. Else the trailer that is wrong, of several the
+                                   newest: its first byte */
 
 /* The front of every answer. */
 #define FIBER_SETTLEMENT_NUMBER 0
@@ -594,6 +604,142 @@ static inline uint64_t fiber_settlement_choose_request(const struct fiber_settle
         r->remote_amount.low, r->remote_amount.high, r->args.bytes, r->args.len, r->tlcs.bytes, r->tlcs.len, r->local_key.bytes,
         r->local_key.len, r->remote_key.bytes, r->remote_key.len, r->tracked.bytes, r->tracked.len, r->preimages.bytes,
         r->preimages.len, r->witness.bytes, r->witness.len, out, out_len, answer, answer_len);
+}
+
+/* ---- The journal ---- */
+
+/* A journal keeps unlocks on file. It is the first `length` bytes of a slice that the host lends and that may be longer: entries,
+ * joined, the newest at the end. An entry:
+ *
+ *    0, 32 bytes  channel id, of the host's choosing, the same in all entries of a channel
+ *   32,  1        unlock byte
+ *   33,  1        flag
+ *   34, 16        amount
+ *   50,  8        the trailer begins: the place where the entry before starts, all ones where there is none
+ *   58,  4        its own length, 62
+ *
+ * Numbers are little-endian, and places count from the slice's first byte. The journal is read from its end: the last four bytes
+ * say how long the last entry is, the eight before them where the one before it starts. Every call tests the whole chain so,
+ * newest first, in time that grows with the length: 65,535 entries are 4,063,170 bytes. The trailers are tested and nothing else:
+ * a byte that has changed in another field goes unseen.
+ *
+ * THE LENGTH is kept by the host, with the bytes. An append answers the new one, and the next call has to be given that: with the old
+ * one the next append writes over the entry, and no number says so. So do two appends at once. A refusal leaves length and bytes as
+ * they were. The inline functions below keep the length in a struct, and move it on success alone.
+ *
+ * ON DISK. Write the 62 new bytes before the new length, or both as one; never the length first. Where a crash comes between, the
+ * old length is still right, and what stands behind it does not count. A host that has only a file appends the 62 bytes to it and
+ * takes the file's size for the length.
+ *
+ * 41 has these causes, told apart by its place:
+ *
+ *   the length is not the one of these bytes, but another journal's, or a count of entries. Look there first: nothing is lost.
+ *   a write broke off, and the file's size is the length. The size is then no multiple of 62, or 41 is at the last trailer, at
+ *     length - 12, where the file system left zeros. All bytes before the torn entry are still a journal. Keep a copy; take for
+ *     the length the largest multiple of 62 that is not above the size, and 62 less for as long as 41 is at the last trailer; cut the
+ *     file there before the next append. The entry is appended again.
+ *   a place further to the front, at a length that is a multiple of 62: something wrote over the bytes, and the trailers behind the
+ *     place are right. Do not cut, which would drop those entries: take the journal from a copy, and tell an operator.
+ *
+ * WHAT TO APPEND. An unlock when the chain has taken its transaction, once: no call looks whether an entry is there already, so
+ * after a restart walk the journal first. Unlock byte and flag go in as given, and as each is one byte they are taken swapped as
+ * well: read both from the unlock's own front (fiber_journal_append_chosen does). The byte is a place in the state before that
+ * unlock, so that in two entries of a channel it can be of two TLCs. */
+#define FIBER_JOURNAL_ENTRY 62
+#define FIBER_JOURNAL_CHANNEL 32 /* a channel id, at the front of an entry */
+#define FIBER_JOURNAL_UNLOCK 32 /* offset, 1 byte */
+#define FIBER_JOURNAL_FLAG 33 /* offset, 1 byte */
+#define FIBER_JOURNAL_AMOUNT 34 /* offset, 16 bytes, the low half first */
+#define FIBER_JOURNAL_BEFORE 50 /* offset, 8 bytes: where the entry before starts. Here begins the trailer */
+#define FIBER_JOURNAL_LENGTH 58 /* offset, 4 bytes: the entry's own length */
+#define FIBER_JOURNAL_NO_ENTRY 0xFFFFFFFFFFFFFFFF /* in the place of the entry before, where there is none */
+#define FIBER_JOURNAL_MOST_ENTRIES 65535 /* an append makes no more; a walk goes over any number */
+
+/* The answer of both calls. */
+#define FIBER_JOURNAL_ANSWER 24
+#define FIBER_JOURNAL_ANSWER_LENGTH 16 /* of an append the journal's new length, of a walk the bytes written */
+
+/* Appends one entry: writes its 62 bytes behind the journal, changes no other byte of the slice, and answers the new length. The
+ * slice must not overlap the answer buffer, nor the channel id: an id that lies in an entry is copied out first. Numbers, in this
+ * order: 14 for a length beyond journal_size, or a channel id that has not 32 bytes; 41; 40; 13 where the slice has no room. */
+uint64_t fiber_journal_append(uint8_t *journal, size_t journal_size, uint64_t length, const uint8_t *channel,
+                              size_t channel_len, uint8_t unlock, uint8_t flag, uint64_t amount_low, uint64_t amount_high,
+                              uint8_t *answer, size_t answer_len);
+
+/* Writes every entry, whole and once, newest first, to the front of out, and answers the bytes written: as many as the journal
+ * has, none for length 0. out must not overlap the journal. Numbers, in this order: 14 for a length beyond journal_size; 41; 13.
+ * With out NULL and out_len 0 it tests the chain and writes nothing: 13 says that the journal is one, as 0 does of an empty one. */
+uint64_t fiber_journal_walk(const uint8_t *journal, size_t journal_size, uint64_t length, uint8_t *out, size_t out_len,
+                            uint8_t *answer, size_t answer_len);
+
+/* A journal, with what belongs to it in one place. A new one has length 0, one from a file the length that was kept. */
+struct fiber_journal {
+    uint8_t *bytes; /* the slice that is lent */
+    size_t size; /* how many bytes it has */
+    uint64_t length; /* how many of them, from the front, are the journal */
+};
+
+/* An entry, by names. */
+struct fiber_journal_entry {
+    struct fiber_settlement_bytes channel; /* 32 bytes */
+    uint8_t unlock;
+    uint8_t flag;
+    struct fiber_settlement_amount amount;
+};
+
+/* Appends the entry, and moves the journal's length if it was taken: the 62 bytes before the length are then new, and go to the disk.
+ * Numbers as of fiber_journal_append. */
+static inline uint64_t fiber_journal_append_entry(struct fiber_journal *journal, const struct fiber_journal_entry *entry,
+                                                  uint8_t *answer, size_t answer_len)
+{
+    const struct fiber_journal_entry *e = entry;
+    const uint64_t number =
+        fiber_journal_append(journal->bytes, journal->size, journal->length, e->channel.bytes, e->channel.len, e->unlock, e->flag,
+                             e->amount.low, e->amount.high, answer, answer_len);
+    if (number == FIBER_SETTLEMENT_OK)
+        journal->length = fiber_settlement_field(answer, FIBER_JOURNAL_ANSWER_LENGTH);
+    return number;
+}
+
+/* Appends what a choice has chosen: unlock byte and flag from the unlock at the front of its output; from its answer, of
+ * FIBER_SETTLEMENT_CHOOSE_ANSWER bytes, the amount, which is the share's also where the last settlement pays out more. Numbers as of
+ * fiber_journal_append; 14 at 0 also where the answer chooses nothing, or another unlock than the output begins with. */
+static inline uint64_t fiber_journal_append_chosen(struct fiber_journal *journal, struct fiber_settlement_bytes channel,
+                                                   const uint8_t *out, const uint8_t *choose_answer, uint8_t *answer,
+                                                   size_t answer_len)
+{
+    const int is_chosen = fiber_settlement_field(choose_answer, FIBER_SETTLEMENT_NUMBER) == FIBER_SETTLEMENT_OK
+                          && fiber_settlement_field(choose_answer, FIBER_SETTLEMENT_CHOOSE_BYTE) == out[0]
+                          && fiber_settlement_field(choose_answer, FIBER_SETTLEMENT_CHOOSE_UNLOCK_LENGTH)
+                                 == (out[1] == 1 ? FIBER_SETTLEMENT_UNLOCK_WITH_PREIMAGE : FIBER_SETTLEMENT_UNLOCK);
+    struct fiber_journal_entry entry;
+    memset(&entry, 0, sizeof entry);
+    if (is_chosen) {
+        entry.channel = channel; /* else there is none, which is 14 */
+        entry.unlock = out[0];
+        entry.flag = out[1];
+        entry.amount.low = fiber_settlement_field(choose_answer, FIBER_SETTLEMENT_CHOOSE_AMOUNT_LOW);
+        entry.amount.high = fiber_settlement_field(choose_answer, FIBER_SETTLEMENT_CHOOSE_AMOUNT_HIGH);
+    }
+    return fiber_journal_append_entry(journal, &entry, answer, answer_len);
+}
+
+/* Reads the entries of a walk one after the other, newest first: entries is its output, len the bytes that it answered, and *at begins
+ * with 0. 1 with the entry, whose channel id lies in the output, and *at behind it; 0 where none is left. */
+static inline int fiber_journal_next(const uint8_t *entries, size_t len, size_t *at, struct fiber_journal_entry *entry)
+{
+    const uint8_t *bytes;
+    if (*at > len || len - *at < FIBER_JOURNAL_ENTRY)
+        return 0;
+    bytes = entries + *at;
+    entry->channel.bytes = bytes;
+    entry->channel.len = FIBER_JOURNAL_CHANNEL;
+    entry->unlock = bytes[FIBER_JOURNAL_UNLOCK];
+    entry->flag = bytes[FIBER_JOURNAL_FLAG];
+    entry->amount.low = fiber_settlement_field(bytes, FIBER_JOURNAL_AMOUNT);
+    entry->amount.high = fiber_settlement_field(bytes, FIBER_JOURNAL_AMOUNT + 8);
+    *at += FIBER_JOURNAL_ENTRY;
+    return 1;
 }
 
 #ifdef __cplusplus

@@ -120,6 +120,28 @@ mod library {
             answer: *mut u8,
             answer_len: usize,
         ) -> u64;
+        pub fn fiber_journal_append(
+            journal: *mut u8,
+            journal_size: usize,
+            length: u64,
+            channel: *const u8,
+            channel_len: usize,
+            unlock: u8,
+            flag: u8,
+            amount_low: u64,
+            amount_high: u64,
+            answer: *mut u8,
+            answer_len: usize,
+        ) -> u64;
+        pub fn fiber_journal_walk(
+            journal: *const u8,
+            journal_size: usize,
+            length: u64,
+            out: *mut u8,
+            out_len: usize,
+            answer: *mut u8,
+            answer_len: usize,
+        ) -> u64;
     }
 }
 
@@ -185,7 +207,7 @@ pub(crate) fn same_version(library: u64) -> Result<(), Refusal> {
 // ---- The calls ----
 //
 // Of every call here: the pointers come from slices of the lengths said, and Rust's borrows keep what is written,
-// output and answer, apart from each other and from the rest.
+// output, answer and the journal of an append, apart from each other and from the rest.
 
 pub(crate) fn read(h: u64, witness: &[u8]) -> Result<Answer<{ layout::READ_ANSWER }>, Code> {
     // SAFETY: as said above.
@@ -372,6 +394,53 @@ pub(crate) fn choose(of: &Choose, out: &mut [u8]) -> Result<Answer<{ layout::CHO
             length,
         )
     })
+}
+
+/// What is appended to a journal.
+#[derive(Clone, Copy)]
+pub(crate) struct Entry<'a> {
+    pub channel: &'a [u8],
+    pub unlock: u8,
+    pub flag: u8,
+    pub amount: u128,
+}
+
+/// Answers the journal's new length.
+pub(crate) fn journal_append(journal: &mut [u8], length: u64, entry: &Entry) -> Result<usize, Code> {
+    // SAFETY: as said above.
+    let answer: Answer<{ layout::JOURNAL_ANSWER }> = answered(|answer, answer_len| unsafe {
+        library::fiber_journal_append(
+            journal.as_mut_ptr(),
+            journal.len(),
+            length,
+            entry.channel.as_ptr(),
+            entry.channel.len(),
+            entry.unlock,
+            entry.flag,
+            low(entry.amount),
+            high(entry.amount),
+            answer,
+            answer_len,
+        )
+    })?;
+    Ok(answer.place(layout::JOURNAL_ANSWER_LENGTH))
+}
+
+/// Answers how many bytes were written.
+pub(crate) fn journal_walk(journal: &[u8], length: u64, out: &mut [u8]) -> Result<usize, Code> {
+    // SAFETY: as said above.
+    let answer: Answer<{ layout::JOURNAL_ANSWER }> = answered(|answer, answer_len| unsafe {
+        library::fiber_journal_walk(
+            journal.as_ptr(),
+            journal.len(),
+            length,
+            out.as_mut_ptr(),
+            out.len(),
+            answer,
+            answer_len,
+        )
+    })?;
+    Ok(answer.place(layout::JOURNAL_ANSWER_LENGTH))
 }
 
 fn low(amount: u128) -> u64 {

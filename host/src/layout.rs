@@ -1,6 +1,6 @@
 //! Every number, place and length that the library's header, include/fiber_settlement.h, gives by name, each once. A
-//! name here is the header's without `FIBER_SETTLEMENT_`. A test compares [`TABLE`] with the header in both
-//! directions.
+//! name here is the header's without `FIBER_SETTLEMENT_`, of the journal without `FIBER_`. A test compares [`TABLE`]
+//! with the header in both directions.
 //!
 //! A host rarely needs these: the types of this crate lay bytes out and take them apart.
 
@@ -60,6 +60,11 @@ layout! {
     /// Wait: a TLC by preimage, none that is stored counts, and its expiry has not passed (in a first settlement:
     /// or the whole delay is not due); its place in the tracked list.
     TLC_NO_PREIMAGE: u64 = 25;
+    /// An append to 65,535 or more entries; the journal's length.
+    JOURNAL_FULL: u64 = 40;
+    /// A journal is no chain of whole entries; 0 for one of 1 to 61 bytes, else the first byte of the newest trailer
+    /// that is wrong.
+    JOURNAL_BROKEN: u64 = 41;
 
     /// Where an answer has its number.
     NUMBER: usize = 0;
@@ -254,6 +259,29 @@ layout! {
     WRITTEN_ANSWER: usize = 24;
     /// Where it has the length written.
     WRITTEN_LENGTH: usize = 16;
+
+    /// An entry of a journal.
+    JOURNAL_ENTRY: usize = 62;
+    /// A channel id, at the front of an entry.
+    JOURNAL_CHANNEL: usize = 32;
+    /// Where an entry has the unlock's byte.
+    JOURNAL_UNLOCK: usize = 32;
+    /// Where it has the unlock's flag.
+    JOURNAL_FLAG: usize = 33;
+    /// Where it has the amount, 16 bytes.
+    JOURNAL_AMOUNT: usize = 34;
+    /// Where it says where the entry before starts, 8 bytes. Here begins the trailer.
+    JOURNAL_BEFORE: usize = 50;
+    /// Where it has its own length, 4 bytes.
+    JOURNAL_LENGTH: usize = 58;
+    /// Stands in the place of the entry before, where there is none.
+    JOURNAL_NO_ENTRY: u64 = 0xFFFF_FFFF_FFFF_FFFF;
+    /// The most entries that appends make. A walk goes over any number.
+    JOURNAL_MOST_ENTRIES: usize = 65535;
+    /// The answer of `fiber_journal_append` and `fiber_journal_walk`.
+    JOURNAL_ANSWER: usize = 24;
+    /// Where it has the journal's new length, or the bytes that a walk has written.
+    JOURNAL_ANSWER_LENGTH: usize = 16;
 }
 
 /// The length of a record whose payment hash has `h` bytes.

@@ -1,8 +1,8 @@
 //! The settlement core of a Fiber watchtower, for a daemon in Rust.
 //!
 //! A tower finds a commitment cell on chain and asks: what can we unlock now, with which key, and what does the next
-//! cell look like? [`choose`] answers that. The rest of the crate makes what it is asked with, and reads what is on
-//! chain. Signing, fees and finding cells stay with the host.
+//! cell look like? [`choose`] answers that. The rest of the crate makes what it is asked with, reads what is on
+//! chain, and keeps unlocks on file ([`Journal`]). Signing, fees and finding cells stay with the host.
 //!
 //! The work is done by libsettlement_c.a, a static library whose functions are proved to meet their contracts. This
 //! crate lends it slices and turns its answers into types that do not let a host mix up sides, hash lengths or cells.
@@ -35,6 +35,7 @@
 //! 7. [`choose`] answers [`Outcome::Wait`], or [`Outcome::Unlock`] with the unlock, the key that signs, the input's
 //!    since and the next cell's lock args.
 //! 8. The host builds the transaction and signs, and [`Chosen::signed_witness`] makes the bytes that go on chain.
+//! 9. Once the chain has taken it, [`Journal::append`] puts it on file, as [`JournalEntry::of`] has it.
 //!
 //! The example two_towers (`cargo run --example two_towers`) does all of it for both sides of a made-up channel, till
 //! nothing stands. The example of [`choose`] is the shortest.
@@ -146,10 +147,31 @@
 //! So this is how the end looks: after the last settlement there is no cell; after our share was paid out a choice
 //! answers [`Cause::NotOurShare`], until the other side's last settlement spends the cell.
 //!
+//! # The journal
+//!
+//! A [`Journal`] keeps unlocks that the chain has taken: channel id, unlock byte, flag and amount, 62 bytes each with the
+//! trailer that points to the entry before. [`JournalEntry::of`] makes an entry of what was chosen, [`Journal::append`]
+//! puts it behind the others and answers the bytes that go to the file, and [`Journal::walk`] gives all entries, the
+//! newest first, after a test of the whole chain. The example journal (`cargo run --example journal`) keeps one in a
+//! file. The reference has none.
+//!
+//! - The length belongs to the bytes. A host that keeps it beside them writes the new bytes first, then the length, or both
+//!   as one; one that has only a file takes its size. In a [`Journal`] a refused append leaves both as they were.
+//! - Each unlock is appended once: nothing looks whether it is there already. After a restart walk the journal before
+//!   anything is appended.
+//! - [`JournalRefusal::Broken`], 41: is the length the one that was kept with these bytes? Else a write broke off, if the
+//!   file's size is no multiple of 62 or the place is 12 bytes before the end, where a file system left zeros. The bytes
+//!   before the torn entry are still a journal: keep a copy, open the largest multiple of 62 bytes, and 62 less for as
+//!   long as the place is 12 bytes before the end, and cut the file there. With another place, at a multiple of 62 bytes,
+//!   something wrote over the bytes, and the trailers behind are right: take the file from a copy, and do not cut.
+//! - The trailers are tested and nothing else: a byte that has changed in another field goes unseen.
+//! - [`JournalRefusal::Full`], 40: after 65,535 entries begin another journal. This one can still be walked.
+//!
 //! # What to do on each number
 //!
-//! Every [`Refusal`] and every [`Cause`] of a wait prints as a sentence that says what to do. Of a choice the numbers from
-//! 20 on are waits. With 23 to 25 goes the place of the first TLC that is still pending ([`Cause::tlc`]).
+//! Every [`Refusal`], every [`Cause`] of a wait and every [`JournalRefusal`] prints as a sentence that says what to do. Of a
+//! choice the numbers from 20 on are waits. With 23 to 25 goes the place of the first TLC that is still pending
+//! ([`Cause::tlc`]).
 //!
 //! | Number | Case | What to do |
 //! |---|---|---|
@@ -158,15 +180,17 @@
 //! | 8 | [`Refusal::ScaledAbove`] | A fraction of an epoch passes its bounds. No choice says so. |
 //! | 10, 11 | [`Refusal::ArgsShort`], [`NoDelay`](Refusal::NoDelay) | Not the args of a commitment cell: leave the cell. |
 //! | 12 | [`Refusal::TooManyTlcs`] | More than 254 TLCs, and no unlock byte names the last: tell an operator. A later settlement goes on as soon as an unlock has settled one. |
-//! | 13 | [`Refusal::OutputShort`] | Lend as many bytes as it says ([`Request::output_length`] does) and ask again. |
-//! | 14 | [`Refusal::NotWell`] | The call is wrong. The types of this crate make no such call. |
+//! | 13 | [`Refusal::OutputShort`], [`JournalRefusal::OutputShort`] | Lend as many bytes as it says ([`Request::output_length`] does) and ask again; to an append lend a slice of that many. |
+//! | 14 | [`Refusal::NotWell`], [`JournalRefusal::NotWell`] | The call is wrong. The types of this crate make no such call but one, a journal's length beyond its slice. |
 //! | 20 | [`Cause::ListDiffers`] | Wait. The tracked list is not what stands in the cell: scan the chain again. [`choose`] looks at that first, and says [`Refusal::TrackedDiffers`]. |
 //! | 21 | [`Cause::NotOurShare`] | Wait. Our share was paid out, and no TLC of this cell is taken any more: leave the cell. |
 //! | 22 | [`Cause::DelayNotDue`] | Wait. A first settlement without TLCs: ask again at the next tip. Where this stays past the delay: is `cell_epoch` that of the cell's own block? |
 //! | 23 | [`Cause::NoExpiryOrKey`] | Wait, and tell an operator: this TLC never comes due, and our share waits with it. Are the settlement TLCs whole, and is the record of this channel? Go on asking, since other TLCs may still come due. The types of this crate make no such request. |
 //! | 24 | [`Cause::ExpiryNotPassed`] in a later settlement, [`Cause::DelayOrExpiry`] in a first one | Wait. Ask again at the next tip. Where this stays past the TLC's expiry and its part of the delay: is `cell_epoch` that of the cell's own block, and `time` the tip's median time? |
 //! | 25 | [`Cause::NoPreimage`] | Wait. Ask again at the next tip, or as soon as the TLC's preimage is stored, with which it is chosen at once. |
-//! | none | the other cases of [`Refusal`] | This crate turned it down before the library was asked: parts that do not belong to one cell, or a preimage that is not the TLC's. |
+//! | 40 | [`JournalRefusal::Full`] | The journal has its most entries: begin another one. |
+//! | 41 | [`JournalRefusal::Broken`] | The bytes are not what appends leave: see "The journal" above. |
+//! | none | the other cases of [`Refusal`], [`JournalRefusal::Library`] | This crate turned it down before the library was asked: parts that do not belong to one cell, or a preimage that is not the TLC's. Or crate and library are not of one version. |
 //!
 //! # What stays a host's duty
 //!
@@ -190,6 +214,7 @@ mod c;
 mod choose;
 mod epoch;
 mod hash;
+mod journal;
 pub mod layout;
 mod preimage;
 mod record;
@@ -203,6 +228,7 @@ pub use args::{ArgsError, HashLength, LockArgs};
 pub use choose::{choose, Chosen, Key, Outcome, Request, Unlocked, Way};
 pub use epoch::{expiry, is_due, Epoch, EpochError, MedianTime, TimeError};
 pub use hash::{ckb_hash, key_hash, sha256, Algorithm, Hash, KeyHash, PublicKey};
+pub use journal::{ChannelId, Journal, JournalEntries, JournalEntry, JournalRefusal};
 pub use preimage::Preimage;
 pub use record::{Share, Shares, Tlc, Tlcs};
 pub use refusal::{Cause, Refusal};

@@ -3,6 +3,7 @@
 
 mod cells;
 mod header;
+mod journal;
 mod misuse;
 mod refusals;
 mod replay;

@@ -777,6 +777,280 @@ static void lengths_of_args(void)
     same("h of nothing", fiber_settlement_hash_length(NULL, 0), 0);
 }
 
+/* ---- the journal ---- */
+
+enum { ONE = FIBER_JOURNAL_ENTRY, MOST = FIBER_JOURNAL_MOST_ENTRIES };
+static uint8_t slice[4 * ONE], channels[2][FIBER_JOURNAL_CHANNEL];
+
+/* Two entries, put together by the layout in the header, and a third one like the second. */
+static const uint8_t entries[3][ONE] = {
+    {0xC0, 0xC0, 0xC0, 0xC0, 0xC0, 0xC0, 0xC0, 0xC0, 0xC0, 0xC0, 0xC0, 0xC0, 0xC0, 0xC0, 0xC0, 0xC0, /* channel id */
+     0xC0, 0xC0, 0xC0, 0xC0, 0xC0, 0xC0, 0xC0, 0xC0, 0xC0, 0xC0, 0xC0, 0xC0, 0xC0, 0xC0, 0xC0, 0xC0,
+     0xFE, 1, /* unlock, flag */
+     0x08, 0x07, 0x06, 0x05, 0x04, 0x03, 0x02, 0x01, 0x18, 0x17, 0x16, 0x15, 0x14, 0x13, 0x12, 0x11, /* amount */
+     0xFF, 0xFF, 0xFF, 0xFF, 0xFF, 0xFF, 0xFF, 0xFF, 62, 0, 0, 0}, /* no entry before, and its length */
+    {0xC1, 0xC1, 0xC1, 0xC1, 0xC1, 0xC1, 0xC1, 0xC1, 0xC1, 0xC1, 0xC1, 0xC1, 0xC1, 0xC1, 0xC1, 0xC1,
+     0xC1, 0xC1, 0xC1, 0xC1, 0xC1, 0xC1, 0xC1, 0xC1, 0xC1, 0xC1, 0xC1, 0xC1, 0xC1, 0xC1, 0xC1, 0xC1,
+     7, 0xAB,
+     5, 0, 0, 0, 0, 0, 0, 0, 0, 0, 0, 0, 0, 0, 0, 0,
+     0, 0, 0, 0, 0, 0, 0, 0, 62, 0, 0, 0}, /* the one before starts at 0 */
+    {0xC1, 0xC1, 0xC1, 0xC1, 0xC1, 0xC1, 0xC1, 0xC1, 0xC1, 0xC1, 0xC1, 0xC1, 0xC1, 0xC1, 0xC1, 0xC1,
+     0xC1, 0xC1, 0xC1, 0xC1, 0xC1, 0xC1, 0xC1, 0xC1, 0xC1, 0xC1, 0xC1, 0xC1, 0xC1, 0xC1, 0xC1, 0xC1,
+     7, 0xAB,
+     5, 0, 0, 0, 0, 0, 0, 0, 0, 0, 0, 0, 0, 0, 0, 0,
+     62, 0, 0, 0, 0, 0, 0, 0, 62, 0, 0, 0}, /* at 62 */
+};
+
+static uint64_t append_call(size_t i, size_t size, uint64_t length, size_t channel_len, size_t answer_len)
+{
+    fresh();
+    return i == 0 ? fiber_journal_append(slice, size, length, channels[0], channel_len, 0xFE, 1, UINT64_C(0x0102030405060708),
+                                         UINT64_C(0x1112131415161718), answer, answer_len)
+                  : fiber_journal_append(slice, size, length, channels[1], channel_len, 7, 0xAB, 5, 0, answer, answer_len);
+}
+
+static uint64_t walk_call(uint64_t length, size_t out_len)
+{
+    fresh();
+    return fiber_journal_walk(slice, sizeof slice, length, out, out_len, answer, sizeof answer);
+}
+
+static void appended(size_t count)
+{
+    const size_t size = FIBER_JOURNAL_ANSWER;
+    size_t i;
+    memset(slice, GUARD, sizeof slice);
+    for (i = 0; i < count; i++) {
+        done("append", append_call(i, sizeof slice, i * ONE, 32, size), size);
+        same("append's length", at(FIBER_JOURNAL_ANSWER_LENGTH), (i + 1) * ONE);
+        same_bytes("the journal", slice, entries[0], (i + 1) * ONE);
+        untouched("behind the journal", slice, (i + 1) * ONE, sizeof slice);
+    }
+}
+
+/* Turned down: number, place, and not a byte of the slice. */
+static void not_appended(const char *what, uint64_t returned, uint64_t number, uint64_t place)
+{
+    uint8_t before[sizeof slice];
+    memset(before, GUARD, sizeof before);
+    memcpy(before, entries, 2 * ONE);
+    turned_down(what, returned, number, place);
+    same_bytes(what, slice, before, sizeof slice);
+}
+
+static void appending(void)
+{
+    const size_t size = FIBER_JOURNAL_ANSWER, two = 2 * ONE;
+    memset(channels[0], 0xC0, sizeof channels[0]);
+    memset(channels[1], 0xC1, sizeof channels[1]);
+    appended(3);
+    appended(2);
+    not_appended("append, no room", append_call(2, 3 * ONE - 1, two, 32, size), FIBER_SETTLEMENT_OUTPUT_SHORT, 186);
+    not_appended("append, none at all", append_call(2, two, two, 32, size), FIBER_SETTLEMENT_OUTPUT_SHORT, 186);
+    not_appended("append, length beyond", append_call(2, two - 1, two, 32, size), FIBER_SETTLEMENT_NOT_WELL, 0);
+    not_appended("append, length 2^64-1", append_call(2, sizeof slice, UINT64_MAX, 32, size), FIBER_SETTLEMENT_NOT_WELL, 0);
+    not_appended("append, channel of 31", append_call(2, sizeof slice, two, 31, size), FIBER_SETTLEMENT_NOT_WELL, 0);
+    not_appended("append, channel of 33", append_call(2, sizeof slice, two, 33, size), FIBER_SETTLEMENT_NOT_WELL, 0);
+    not_appended("append, a length of 1", append_call(2, sizeof slice, 1, 32, size), FIBER_JOURNAL_BROKEN, 0);
+    not_appended("append, a length of 61", append_call(2, sizeof slice, 61, 32, size), FIBER_JOURNAL_BROKEN, 0);
+    not_appended("append, a length of 63", append_call(2, sizeof slice, 63, 32, size), FIBER_JOURNAL_BROKEN, 51);
+    not_appended("append, a length of 123", append_call(2, 123, 123, 32, size), FIBER_JOURNAL_BROKEN, 111); /* before 13 */
+    unanswered("append, short", append_call(2, sizeof slice, two, 32, size - 1));
+    fresh();
+    unanswered("append, NULL", fiber_journal_append(slice, sizeof slice, two, channels[1], 32, 7, 0xAB, 5, 0, NULL, 0));
+    turned_down("append, channel NULL", fiber_journal_append(slice, sizeof slice, two, NULL, 0, 7, 0xAB, 5, 0, fresh(), size), 14, 0);
+    turned_down("append to NULL", fiber_journal_append(NULL, 0, 0, channels[1], 32, 7, 0xAB, 5, 0, fresh(), size), 13, 62);
+    same_bytes("the journal, turned down", slice, entries[0], two);
+}
+
+static void walking(void)
+{
+    const size_t size = FIBER_JOURNAL_ANSWER, two = 2 * ONE;
+    appended(2);
+    done("walk", walk_call(two, two), size);
+    same("walk's bytes", at(FIBER_JOURNAL_ANSWER_LENGTH), two);
+    same_bytes("the newest first", out, entries[1], ONE);
+    same_bytes("then the one before", out + ONE, entries[0], ONE);
+    untouched("behind the walk", out, two, sizeof out);
+    done("walk of one", walk_call(ONE, sizeof out), size);
+    same("bytes of one", at(FIBER_JOURNAL_ANSWER_LENGTH), ONE);
+    same_bytes("one", out, entries[0], ONE);
+    untouched("behind one", out, ONE, sizeof out);
+    done("walk of none", walk_call(0, sizeof out), size);
+    same("bytes of none", at(FIBER_JOURNAL_ANSWER_LENGTH), 0);
+    untouched("none", out, 0, sizeof out);
+    done("walk of NULL", fiber_journal_walk(NULL, 0, 0, NULL, 0, fresh(), size), size);
+    same("bytes of NULL", at(FIBER_JOURNAL_ANSWER_LENGTH), 0);
+
+    turned_down("walk, out", walk_call(two, two - 1), FIBER_SETTLEMENT_OUTPUT_SHORT, two);
+    fresh();
+    turned_down("walk, out NULL", fiber_journal_walk(slice, two, two, NULL, 0, answer, size), FIBER_SETTLEMENT_OUTPUT_SHORT, two);
+    turned_down("walk, length beyond", walk_call(sizeof slice + 1, sizeof out), FIBER_SETTLEMENT_NOT_WELL, 0);
+    turned_down("walk, length 2^64-1", walk_call(UINT64_MAX, sizeof out), FIBER_SETTLEMENT_NOT_WELL, 0);
+    turned_down("walk, a length of 61", walk_call(61, sizeof out), FIBER_JOURNAL_BROKEN, 0);
+    turned_down("walk, a length of 125", walk_call(125, 0), FIBER_JOURNAL_BROKEN, 113); /* before 13 */
+    fresh();
+    unanswered("walk, short", fiber_journal_walk(slice, two, two, out, sizeof out, answer, size - 1));
+    unanswered("walk, NULL", fiber_journal_walk(slice, two, two, out, sizeof out, NULL, 0));
+}
+
+/* Any byte of a trailer that is not as it has to be is told, the newest trailer first; every other byte is any. */
+static void damaged(void)
+{
+    const size_t three = 3 * ONE;
+    size_t i;
+    appended(3);
+    for (i = 0; i < three; i++) {
+        slice[i] ^= 1;
+        if (i % ONE < FIBER_JOURNAL_BEFORE)
+            done("another field", walk_call(three, sizeof out), FIBER_JOURNAL_ANSWER);
+        else
+            turned_down("a trailer's byte", walk_call(three, sizeof out), FIBER_JOURNAL_BROKEN, i / ONE * ONE + 50);
+        slice[i] ^= 1;
+    }
+    slice[50] = slice[112] = 1;
+    turned_down("the newest fault", walk_call(three, sizeof out), FIBER_JOURNAL_BROKEN, 112);
+    turned_down("the newest fault, append", append_call(1, sizeof slice, three, 32, sizeof answer), FIBER_JOURNAL_BROKEN, 112);
+    slice[112] = 0;
+    turned_down("the fault before", walk_call(three, sizeof out), FIBER_JOURNAL_BROKEN, 50);
+}
+
+/* A journal of the most entries and one more, and room for one behind. */
+static uint8_t large[(MOST + 2) * ONE], walked[(MOST + 2) * ONE];
+
+static void grown(size_t count)
+{
+    size_t i;
+    memset(large, GUARD, sizeof large);
+    for (i = 0; i < count; i++) {
+        put_le(large + i * ONE, i);
+        put_le(large + i * ONE + 50, i == 0 ? UINT64_MAX : (i - 1) * ONE);
+        memset(large + i * ONE + 58, 0, 4);
+        large[i * ONE + 58] = 62;
+    }
+}
+
+static uint64_t large_append(uint64_t length)
+{
+    fresh();
+    return fiber_journal_append(large, sizeof large, length, channels[1], 32, 7, 0xAB, 5, 0, answer, FIBER_JOURNAL_ANSWER);
+}
+
+static void many_entries(void)
+{
+    const size_t size = FIBER_JOURNAL_ANSWER;
+    grown(MOST - 1);
+    done("append the last", large_append((uint64_t)(MOST - 1) * ONE), size);
+    same("length of the most", at(FIBER_JOURNAL_ANSWER_LENGTH), 4063170);
+    turned_down("append one more", large_append(4063170), FIBER_JOURNAL_FULL, 4063170);
+    untouched("behind the most", large, 4063170, sizeof large);
+
+    grown(MOST + 1);
+    turned_down("append to more", large_append(4063232), FIBER_JOURNAL_FULL, 4063232);
+    done("walk of more", fiber_journal_walk(large, sizeof large, 4063232, walked, sizeof walked, fresh(), size), size);
+    same("bytes of more", at(FIBER_JOURNAL_ANSWER_LENGTH), 4063232);
+    same_bytes("the newest of more", walked, large + 4063170, ONE);
+    same_bytes("the oldest of more", walked + 4063170, large, ONE);
+    large[50] = 0; /* the oldest trailer */
+    turned_down("more, and damaged", large_append(4063232), FIBER_JOURNAL_BROKEN, 50); /* before 40 */
+}
+
+static void journal_by_names(void)
+{
+    struct fiber_journal journal;
+    struct fiber_journal_entry entry;
+    size_t place = 0;
+    journal.bytes = slice;
+    journal.size = 2 * ONE;
+    journal.length = 0;
+    memset(slice, GUARD, sizeof slice);
+    entry.channel = lent(channels[0], sizeof channels[0]);
+    entry.unlock = 0xFE;
+    entry.flag = 1;
+    entry.amount.low = UINT64_C(0x0102030405060708);
+    entry.amount.high = UINT64_C(0x1112131415161718);
+    done("append_entry", fiber_journal_append_entry(&journal, &entry, fresh(), sizeof answer), FIBER_JOURNAL_ANSWER);
+    same("append_entry's length", journal.length, ONE);
+    same_bytes("append_entry's bytes", slice, entries[0], ONE);
+    unanswered("append_entry, NULL", (fresh(), fiber_journal_append_entry(&journal, &entry, NULL, 0)));
+    same("length, NULL", journal.length, ONE);
+    done("append_entry again", fiber_journal_append_entry(&journal, &entry, fresh(), sizeof answer), FIBER_JOURNAL_ANSWER);
+    same("length of two", journal.length, 2 * ONE);
+    turned_down("append_entry, no room", fiber_journal_append_entry(&journal, &entry, fresh(), sizeof answer), 13, 186);
+    same("length, no room", journal.length, 2 * ONE);
+
+    appended(2);
+    walk_call(2 * ONE, sizeof out);
+    same("the newest", (uint64_t)fiber_journal_next(out, 2 * ONE, &place, &entry), 1);
+    same_bytes("its channel", entry.channel.bytes, channels[1], sizeof channels[1]);
+    same("its channel's length", entry.channel.len, 32);
+    same("its unlock", entry.unlock, 7);
+    same("its flag", entry.flag, 0xAB);
+    same("its amount", entry.amount.low, 5);
+    same("the one before", (uint64_t)fiber_journal_next(out, 2 * ONE, &place, &entry), 1);
+    same("its place", place, 2 * ONE);
+    same_bytes("its channel, too", entry.channel.bytes, channels[0], sizeof channels[0]);
+    same("its unlock, too", entry.unlock, 0xFE);
+    same("its flag, too", entry.flag, 1);
+    same("its amount, low", entry.amount.low, UINT64_C(0x0102030405060708));
+    same("its amount, high", entry.amount.high, UINT64_C(0x1112131415161718));
+    same("none left", (uint64_t)fiber_journal_next(out, 2 * ONE, &place, &entry), 0);
+    place = SIZE_MAX;
+    same("no such place", (uint64_t)fiber_journal_next(out, 2 * ONE, &place, &entry), 0);
+    place = 0;
+    same("none at all", (uint64_t)fiber_journal_next(NULL, 0, &place, &entry), 0);
+}
+
+/* What a choice has chosen, and nothing where it has not. */
+static void journal_of_choices(size_t h, uint8_t for_remote)
+{
+    struct fiber_settlement_request r = request_of(h, for_remote, START + 6000, 6);
+    const uint8_t byte = for_remote ? FIBER_SETTLEMENT_UNLOCK_LOCAL : FIBER_SETTLEMENT_UNLOCK_REMOTE;
+    uint8_t told[FIBER_JOURNAL_ANSWER];
+    struct fiber_journal journal;
+    journal.bytes = slice;
+    journal.size = sizeof slice;
+    journal.length = 0;
+    r.tlcs = r.tracked = lent(NULL, 0);
+    chosen(&r, FIBER_SETTLEMENT_SHARE, byte, 5, 6, 0);
+    same("append_chosen", fiber_journal_append_chosen(&journal, lent(channels[0], 32), out, answer, told, sizeof told), 0);
+    same("length of one choice", journal.length, ONE);
+    same_bytes("channel of the choice", slice, channels[0], 32);
+    same("unlock of the choice", slice[32], byte);
+    same("flag of the choice", slice[33], 0);
+    same("amount of the choice", fiber_settlement_field(slice, 34), 5);
+    same("its high half", fiber_settlement_field(slice, 42), 0);
+    put_le(answer + FIBER_SETTLEMENT_CHOOSE_AMOUNT_HIGH, 9);
+    same("append_chosen, high", fiber_journal_append_chosen(&journal, lent(channels[0], 32), out, answer, told, sizeof told), 0);
+    same("the high half", fiber_settlement_field(slice, ONE + 42), 9);
+
+    /* The other way round: unlock byte 0 and flag 1. */
+    if (for_remote) {
+        r = request_of(h, for_remote, START + 6000, 2);
+        r.preimages = lent(pairs, sizeof pairs);
+        chosen(&r, FIBER_SETTLEMENT_BY_PREIMAGE, 0, 100, 2, 0);
+        journal.length = ONE;
+        same("append_chosen, by preimage", fiber_journal_append_chosen(&journal, lent(channels[0], 32), out, answer, told, sizeof told), 0);
+        same("unlock by preimage", slice[ONE + 32], 0);
+        same("flag by preimage", slice[ONE + 33], 1);
+        same("amount by preimage", fiber_settlement_field(slice, ONE + 34), 100);
+        return;
+    }
+    same("append_chosen, channel of 31", fiber_journal_append_chosen(&journal, lent(channels[0], 31), out, answer, told, sizeof told), 14);
+    out[1] = 1; /* the flag of a longer unlock */
+    same("append_chosen, flag", fiber_journal_append_chosen(&journal, lent(channels[0], 32), out, answer, told, sizeof told), 14);
+    out[1] = 0;
+    out[0] ^= 1;
+    same("append_chosen, another output", fiber_journal_append_chosen(&journal, lent(channels[0], 32), out, answer, told, sizeof told), 14);
+    out[0] ^= 1;
+    put_le(answer, 22); /* a wait, which has no output */
+    same("append_chosen, no output", fiber_journal_append_chosen(&journal, lent(channels[0], 32), NULL, answer, told, sizeof told), 14);
+    same("append_chosen, a wait", fiber_journal_append_chosen(&journal, lent(channels[0], 32), out, answer, told, sizeof told), 14);
+    same("its number", fiber_settlement_field(told, FIBER_SETTLEMENT_NUMBER), 14);
+    same("its place", fiber_settlement_field(told, FIBER_SETTLEMENT_PLACE), 0);
+    same("length of two choices", journal.length, 2 * ONE);
+}
+
 int main(void)
 {
     const size_t lengths[2] = {FIBER_SETTLEMENT_H_SHORT, FIBER_SETTLEMENT_H_FULL};
@@ -805,11 +1079,18 @@ int main(void)
             later_waits(lengths[i], for_remote);
             paid_waits(lengths[i], for_remote);
         }
+    appending();
+    walking();
+    damaged();
+    many_entries();
+    journal_by_names();
     left_out();
     cannot_be();
     epochs_of_headers();
     no_lists();
     flagged();
+    journal_of_choices(lengths[0], 0);
+    journal_of_choices(lengths[0], 1);
     printf("every function: %u checks, %u failed\n", checks, failures);
     return failures != 0;
 }

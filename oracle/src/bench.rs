@@ -1,14 +1,19 @@
-//! `oracle bench`: the reader, the update and the choice over C beside the reference's text, in one run.
+//! `oracle bench`: the reader, the update and the choice over C beside the reference's text, and the journal beside a copy
+//! of its bytes, in one run.
 //!
 //! The port writes into one lent output and one lent answer buffer, which are not cleared between calls; the Rust
 //! allocates what it hands out and drops it. Batches of both are timed in turn, and medians are taken, so that what
 //! else the machine does falls on both.
 
+use crate::document::journal::{self, Journal, Settled, ENTRY, MOST};
 use crate::document::settlement::{self, Request};
 use crate::document::{Document, Epoch};
 use crate::kinds::first::case;
+use crate::kinds::journal::whole;
 use crate::kinds::settlement::{bytes, data_of, since_of, Tlc};
-use crate::port::{halves, CHOOSE, CHOOSE_ANSWER, READ, READ_ANSWER, UPDATE};
+use crate::port::{
+    halves, CHOOSE, CHOOSE_ANSWER, JOURNAL_ANSWER, JOURNAL_APPEND, JOURNAL_WALK, READ, READ_ANSWER, UPDATE,
+};
 use crate::random::Random;
 use crate::reference::calls;
 use std::hint::black_box;
@@ -147,6 +152,8 @@ pub fn run() {
     }
     println!();
     choices();
+    println!();
+    journals();
 }
 
 /// A settlement of `n` TLCs that are all received and expired, the whole delay due. With `matching` each has a pair,
@@ -279,5 +286,75 @@ fn choices() {
                 );
             }
         }
+    }
+}
+
+/// Prints a row: the call beside a copy of the journal's bytes, ns for a call and GB/s of these bytes.
+fn journal_row(call: &str, journal: &Journal, number: u64, ours: impl FnMut()) {
+    let bytes = journal.bytes().expect("within the slice");
+    let mut copy = vec![0; bytes.len()];
+    let (ours, copied) = measured(ours, || black_box(&mut copy).copy_from_slice(black_box(bytes)));
+    let rate = |ns: f64| bytes.len() as f64 / ns;
+    println!(
+        "| {call} | {} | {number} | {ours:.1} | {:.2} | {copied:.1} | {:.2} | {:.1} |",
+        bytes.len() / ENTRY,
+        rate(ours),
+        rate(copied),
+        ours / copied
+    );
+}
+
+/// An append of one more entry, always the same one at the same place.
+fn append_row(count: usize, new: &Settled) {
+    let journal = whole(count, ENTRY);
+    let expected = journal::append(&journal, new);
+    let (low, high) = halves(new.amount);
+    let (mut slice, mut answer) = (journal.slice.clone(), [0; JOURNAL_ANSWER]);
+    let mut appends = |slice: &mut [u8], length: u64| {
+        let (at, size, channel) = (slice.as_mut_ptr(), slice.len(), &new.channel);
+        let (id, id_len, answer) = (channel.as_ptr(), channel.len(), &mut answer);
+        let (to, to_len) = (answer.as_mut_ptr(), answer.len());
+        // SAFETY: all have the lengths passed.
+        unsafe { JOURNAL_APPEND(at, size, length, id, id_len, new.unlock, new.flag, low, high, to, to_len) }
+    };
+    // The same answer first.
+    let number = appends(&mut slice, journal.length);
+    match expected {
+        Document::Value(appended) => assert!(number == 0 && slice.ends_with(&appended.entry)),
+        Document::Row(row, _) => assert!(number == row.number && slice == journal.slice),
+    }
+    journal_row("append", &journal, number, || {
+        assert_eq!(appends(black_box(&mut slice), black_box(journal.length)), number);
+    });
+}
+
+fn walk_row(count: usize) {
+    let journal = whole(count, ENTRY);
+    let mut out = vec![0; count * ENTRY];
+    let mut answer = [0; JOURNAL_ANSWER];
+    let mut walks = |journal: &Journal, out: &mut [u8]| {
+        let (at, size, to) = (journal.slice.as_ptr(), journal.slice.len(), out.as_mut_ptr());
+        // SAFETY: all have the lengths passed.
+        unsafe { JOURNAL_WALK(at, size, journal.length, to, out.len(), answer.as_mut_ptr(), answer.len()) }
+    };
+    // The same answer first.
+    assert_eq!(walks(&journal, &mut out), 0);
+    assert_eq!(journal::walk(&journal, out.len()), Document::Value(out.clone()));
+    journal_row("walk", &journal, 0, || assert_eq!(walks(black_box(&journal), black_box(&mut out)), 0));
+}
+
+/// Prints the table of the journal.
+pub fn journals() {
+    println!("Append and walk of a journal; an append looks at every trailer, a walk also copies every entry. Beside them a");
+    println!("copy of the journal's bytes by the library's memcpy. GB/s are of the journal's bytes.");
+    println!();
+    println!("| call | entries before | answer | port, ns | GB/s | copy, ns | GB/s | port / copy |");
+    println!("|---|---|---|---|---|---|---|---|");
+    let new = Settled { channel: vec![7; 32], unlock: 3, flag: 1, amount: 5 };
+    for count in [1, 1_000, MOST - 1, MOST] {
+        append_row(count, &new);
+    }
+    for count in [1, 1_000, MOST] {
+        walk_row(count);
     }
 }

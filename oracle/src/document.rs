@@ -4,6 +4,7 @@
 
 use std::fmt;
 
+pub mod journal;
 pub mod settlement;
 
 /// Number + index / length.

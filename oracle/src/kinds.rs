@@ -15,6 +15,7 @@ mod due;
 mod expiry;
 pub mod first;
 mod hash;
+pub mod journal;
 mod key;
 mod mul;
 mod read;
@@ -23,7 +24,7 @@ mod update;
 pub mod waits;
 pub mod witness;
 
-/// One operation, on three sides: document 01, the Rust, the port.
+/// One operation, on three sides: document 01, the Rust, the port; on two where the Rust has no such operation.
 ///
 /// Its cases are numbered: first `edges`, then `grid`, then random ones without end. Case and seed determine the
 /// input.
@@ -35,6 +36,10 @@ pub trait Kind {
     const ABOUT: &'static str;
     /// The export it calls.
     const EXPORT: &'static str;
+    /// Whose words the side of the document is written from.
+    const WORDS: &'static str = "document 01";
+    /// Has the Rust such an operation? Where it has not, `rust` is never asked, and the dump tells the document's answers.
+    const IN_RUST: bool = true;
     /// How many lines of the dump are its own.
     const DUMP_LINES: usize;
     /// Does the dump tell document 01's rows outside the equality too? The Rust is not asked there.
@@ -68,6 +73,10 @@ pub trait Kind {
     fn document(input: &Self::Input) -> Document<Self::Value>;
     /// Asked only where document 01 says that the two are equal, and not where `not_shown` holds.
     fn rust(input: &Self::Input) -> Rust<Self::Value>;
+    /// Is it asked?
+    fn with_rust(input: &Self::Input, document: &Document<Self::Value>) -> bool {
+        Self::IN_RUST && document.inside() && !Self::not_shown(input)
+    }
     /// Does the text hand ckb-types something here that no document at hand speaks about? Then the Rust is not
     /// asked, though document 01 has the case inside the equality.
     fn not_shown(_input: &Self::Input) -> bool {
@@ -82,6 +91,11 @@ pub trait Kind {
     /// What kind of value it is, counted by the comparison.
     fn class(_input: &Self::Input, _value: &Self::Value) -> &'static str {
         "values"
+    }
+
+    /// What else is told apart in a case, counted by the comparison.
+    fn situations(_input: &Self::Input, _document: &Document<Self::Value>) -> Vec<&'static str> {
+        vec![]
     }
 
     /// Counts a row that is a wait of the walk.
@@ -133,6 +147,8 @@ pub const TABLE: &[Entry] = &[
     entry::<first::Record>(),
     entry::<first::First>(),
     entry::<choice::Choice>(),
+    entry::<journal::Append>(),
+    entry::<journal::Walk>(),
 ];
 
 // ---- Inputs that several kinds draw ----

@@ -27,10 +27,11 @@ oracle: the text of nervosnetwork/fiber at 21c4dfbdbd, compared with the port ov
       --seconds S     ends each kind after S seconds
       --seed X        seed of the random cases (1)
       --from CASE     first case (0); cases are numbered, edges first
-      --no-port       compares document 01 and the Rust alone
+      --no-port       compares document 01 and the Rust alone; of append and walk nothing
   oracle one KIND SEED CASE [--no-port]   runs one case alone and prints all answers
   oracle dump [--seed X]               prints a sample of the Rust's answers, in the format told at its top
-  oracle bench                         measures reader, update and choice beside the Rust (a release build)
+  oracle bench                         measures reader, update and choice beside the Rust, the journal beside a copy of
+                                       its bytes (a release build)
   oracle settle --bin PATH [options]   runs the program `settle` as a process and compares what it prints
       --rounds N      how many processes (2000)
       --seconds S     ends after S seconds
@@ -69,6 +70,10 @@ fn main() {
         ["dump", ref rest @ ..] => dump(rest),
         ["bench"] => {
             bench::run();
+            0
+        }
+        ["bench", "journal"] => {
+            bench::journals();
             0
         }
         ["settle", ref rest @ ..] => settle(rest),
@@ -205,7 +210,8 @@ fn dump(words: &[&str]) -> i32 {
 }
 
 const DUMP_HEADER: &str = "\
-# Answers of the Rust, nervosnetwork/fiber at commit 21c4dfbdbd, to a fixed list of inputs.
+# Answers of the Rust, nervosnetwork/fiber at commit 21c4dfbdbd, to a fixed list of inputs; and, as it has no journal, in
+# lines of `append` and `walk` those that change request W2's words give.
 # Made by `oracle dump --seed SEED` (oracle/README.md). SHA-256 of the reference's text that answered:
 # DIGEST
 #
@@ -240,7 +246,12 @@ const DUMP_HEADER: &str = "\
 #           length), record (place length), lengths of unlock, state and new args, place of the pair, 1 if it is the last
 #           settlement, else 0 : unlock, state and new args. Record and place of the pair are document 01's, as the Rust
 #           does not tell them.
+#   append  length unlock flag, amount (low half, high half), journal, channel id = new length : entry. The output buffer
+#           is the journal's slice: it begins with the journal, of which there is less than the length says where that is
+#           beyond the slice, and the entry is what then stands behind it.
+#   walk    length, the journal's slice = bytes written : entries, newest first
 #
 # Left out are other inputs outside the equality of document 01: what cannot be handed to the Rust (fields beyond their
-# bits, keys of other lengths), whole parts above 16777215, a length of 0 in the due test.
+# bits, keys of other lengths), whole parts above 16777215, a length of 0 in the due test. No line is answered 40, whose
+# journal would have 4 MB.
 ";

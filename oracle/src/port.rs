@@ -1,9 +1,11 @@
 //! The port, called over C. Every buffer that it may write lies in a larger one full of random bytes, and every
 //! byte that it may not write is checked.
 
+use crate::document::journal::{Appended, Journal, Settled};
 use crate::document::settlement::{Chosen, Data, Read, Request};
 use crate::document::Epoch;
 use crate::random::Random;
+use std::ops::Range;
 
 /// Declares an export: its type, and a constant that holds it.
 macro_rules! export {
@@ -36,6 +38,10 @@ export!(CHOOSE, SettlementChoose,
     fn fiber_settlement_choose(u64, u8, u8, u64, u64, u64, u64, u64, u64, u64, u64, u64, u64, u64,
         *const u8, usize, *const u8, usize, *const u8, usize, *const u8, usize, *const u8, usize, *const u8, usize,
         *const u8, usize, *mut u8, usize, *mut u8, usize) -> u64);
+export!(JOURNAL_APPEND, JournalAppend,
+    fn fiber_journal_append(*mut u8, usize, u64, *const u8, usize, u8, u8, u64, u64, *mut u8, usize) -> u64);
+export!(JOURNAL_WALK, JournalWalk,
+    fn fiber_journal_walk(*const u8, usize, u64, *mut u8, usize, *mut u8, usize) -> u64);
 
 /// The port's answer.
 #[derive(Clone, Debug, PartialEq, Eq)]
@@ -92,7 +98,12 @@ impl Buffer {
 
     /// Checks that at most the first `count` bytes lent were written.
     pub fn only(&self, count: usize) -> Result<(), String> {
-        let may = self.from..self.from + count;
+        self.only_at(0..count)
+    }
+
+    /// Checks that at most these of the bytes lent were written.
+    pub fn only_at(&self, at: Range<usize>) -> Result<(), String> {
+        let may = self.from + at.start..self.from + at.end;
         if self.bytes[..may.start] == self.before[..may.start]
             && self.bytes[may.end..] == self.before[may.end..]
         {
@@ -100,15 +111,17 @@ impl Buffer {
         }
         let fault = (0..self.bytes.len()).find(|i| !may.contains(i) && self.bytes[*i] != self.before[*i]);
         Err(format!(
-            "byte {} of a buffer of {} was written, allowed are 0 to {count}",
+            "byte {} of a buffer of {} was written, allowed are {} to {}",
             fault.expect("they differ") as i64 - self.from as i64,
-            self.length
+            self.length,
+            at.start,
+            at.end
         ))
     }
 }
 
 /// The lengths of short answer buffers to try, where `size` bytes are wanted: one at times, or every one.
-fn shorter(random: &mut Random, size: usize) -> std::ops::Range<usize> {
+fn shorter(random: &mut Random, size: usize) -> Range<usize> {
     match random.below(64) {
         0 => 0..size,
         1..=16 => {
@@ -374,7 +387,8 @@ fn written<const N: usize>(
     answer: usize,
     call: impl Fn([Given; N], *mut u8, usize, *mut u8, usize) -> u64,
 ) -> Result<Option<Reply<Vec<u8>>>, String> {
-    let done = called(random, lists, output, answer, UPDATE_ANSWER, call)?;
+    let out = Buffer::new(random, output);
+    let done = called(random, lists, out, answer, UPDATE_ANSWER, call)?;
     let Some((reply, out)) = done else {
         return Ok(None);
     };
@@ -398,16 +412,15 @@ type Wrote = (Reply<Vec<u8>>, Buffer);
 fn called<const N: usize>(
     random: &mut Random,
     lists: [&[u8]; N],
-    output: usize,
+    mut out: Buffer,
     answer: usize,
     size: usize,
     call: impl Fn([Given; N], *mut u8, usize, *mut u8, usize) -> u64,
 ) -> Result<Option<Wrote>, String> {
     let texts = lists.map(|list| Buffer::holding(random, list));
-    let mut out = Buffer::new(random, output);
     let mut fields = Buffer::new(random, answer);
     let given = std::array::from_fn(|i| (texts[i].reading(), lists[i].len()));
-    let number = call(given, out.pointer(), output, fields.pointer(), answer);
+    let number = call(given, out.pointer(), out.length, fields.pointer(), answer);
     texts.iter().try_for_each(|text| text.only(0))?;
     if answer < size {
         out.only(0)?;
@@ -469,13 +482,9 @@ fn one_choice(
         &request.preimages,
         witness,
     ];
-    let done = called(
-        random,
-        lists,
-        request.output,
-        answer,
-        CHOOSE_ANSWER,
-        |given, out, out_len, answer, answer_len| {
+    let out = Buffer::new(random, request.output);
+    let done =
+        called(random, lists, out, answer, CHOOSE_ANSWER, |given, out, out_len, answer, answer_len| {
             let [args, tlcs, ours, theirs, tracked, preimages, witness] = given;
             // SAFETY: all lists, output and buffer have the lengths passed.
             unsafe {
@@ -514,8 +523,7 @@ fn one_choice(
                     answer_len,
                 )
             }
-        },
-    )?;
+        })?;
     match done {
         None => Ok(None),
         Some((Reply::Refused { number, place }, _)) => Ok(Some(Reply::Refused { number, place })),
@@ -592,4 +600,93 @@ fn truth(number: u64) -> Result<bool, String> {
         1 => Ok(true),
         other => Err(format!("{other} where 0 or 1 belongs")),
     }
+}
+
+// ---- The journal ----
+
+pub const JOURNAL_ANSWER: usize = 24;
+
+/// The pointers of a call, by their places among these lengths: where no byte is lent, NULL at times.
+fn or_null<const N: usize>(random: &mut Random, lengths: [usize; N]) -> impl Fn(usize, *mut u8) -> *mut u8 {
+    let null = lengths.map(|length| length == 0 && random.one_in(2));
+    move |place, pointer| if null[place] { std::ptr::null_mut() } else { pointer }
+}
+
+/// An append: the new length, and what the slice then has behind the journal.
+pub fn append(
+    random: &mut Random,
+    call: JournalAppend,
+    journal: &Journal,
+    new: &Settled,
+) -> Called<Appended> {
+    for length in shorter(random, JOURNAL_ANSWER) {
+        one_append(random, call, journal, new, length)?;
+    }
+    let length = enough(random, JOURNAL_ANSWER);
+    let reply = one_append(random, call, journal, new, length)?;
+    Ok(reply.expect("the buffer is long enough"))
+}
+
+/// One append with an answer buffer of this length. None: 14 by the return value alone.
+fn one_append(
+    random: &mut Random,
+    call: JournalAppend,
+    journal: &Journal,
+    new: &Settled,
+    answer: usize,
+) -> Result<Option<Reply<Appended>>, String> {
+    let Settled { channel, unlock, flag, amount } = new;
+    let (slice, (low, high)) = (Buffer::holding(random, &journal.slice), halves(*amount));
+    let or_null = or_null(random, [journal.slice.len(), channel.len(), answer]);
+    let call = |[id]: [Given; 1], at, size, to, to_len| {
+        let (at, to) = (or_null(0, at), or_null(2, to));
+        let (id, id_len) = (or_null(1, id.0.cast_mut()), id.1);
+        // SAFETY: slice, channel id and buffer have the lengths passed.
+        unsafe { call(at, size, journal.length, id, id_len, *unlock, *flag, low, high, to, to_len) }
+    };
+    let done = called(random, [channel], slice, answer, JOURNAL_ANSWER, call)?;
+    match done {
+        None => Ok(None),
+        Some((Reply::Refused { number, place }, _)) => Ok(Some(Reply::Refused { number, place })),
+        Some((Reply::Value(fields), slice)) => {
+            appended(journal, u64_at(&fields, 16), &slice).map(|appended| Some(Reply::Value(appended)))
+        }
+    }
+}
+
+/// What a successful append left: no byte of the slice but those between the two lengths may be another one.
+fn appended(journal: &Journal, length: u64, slice: &Buffer) -> Result<Appended, String> {
+    let may = journal.length..=slice.length as u64;
+    if !may.contains(&length) {
+        return Err(format!("success with the length {length}, {} before, in {}", may.start(), may.end()));
+    }
+    let (from, to) = (journal.length as usize, length as usize);
+    slice.only_at(from..to)?;
+    Ok(Appended { length, entry: slice.written(to)[from..].to_vec() })
+}
+
+/// A walk: the bytes written.
+pub fn walk(random: &mut Random, call: JournalWalk, journal: &Journal, output: usize) -> Called<Vec<u8>> {
+    for length in shorter(random, JOURNAL_ANSWER) {
+        one_walk(random, call, journal, output, length)?;
+    }
+    let length = enough(random, JOURNAL_ANSWER);
+    let reply = one_walk(random, call, journal, output, length)?;
+    Ok(reply.expect("the buffer is long enough"))
+}
+
+/// One walk with an answer buffer of this length. None: 14 by the return value alone.
+fn one_walk(
+    random: &mut Random,
+    call: JournalWalk,
+    journal: &Journal,
+    output: usize,
+    answer: usize,
+) -> Result<Option<Reply<Vec<u8>>>, String> {
+    let or_null = or_null(random, [journal.slice.len(), output, answer]);
+    written(random, [&journal.slice], output, answer, |[slice], out, out_len, to, to_len| {
+        let (at, out, to) = (or_null(0, slice.0.cast_mut()), or_null(1, out), or_null(2, to));
+        // SAFETY: slice, output and buffer have the lengths passed.
+        unsafe { call(at, slice.1, journal.length, out, out_len, to, to_len) }
+    })
 }

@@ -26,6 +26,9 @@ const FAILURES_SHOWN: u64 = 3;
 /// What a run counted.
 pub struct Tally {
     kind: &'static str,
+    /// Whose words the document's side has, and has the Rust such an operation?
+    words: &'static str,
+    in_rust: bool,
     port: bool,
     rounds: u64,
     /// Values by class.
@@ -36,6 +39,8 @@ pub struct Tally {
     not_shown: u64,
     /// Waits of the walk by what they name.
     waits: Waits,
+    /// What else was told apart.
+    situations: BTreeMap<&'static str, u64>,
     pub failures: u64,
     time: Duration,
 }
@@ -43,6 +48,9 @@ pub struct Tally {
 impl Tally {
     fn count<K: Kind>(&mut self, input: &K::Input, document: &Document<K::Value>) {
         self.rounds += 1;
+        for situation in K::situations(input, document) {
+            *self.situations.entry(situation).or_default() += 1;
+        }
         if document.inside() && K::not_shown(input) {
             self.not_shown += 1;
             return;
@@ -64,55 +72,91 @@ impl Tally {
             .collect();
         (rows.map(|(_, count)| count).sum(), text.join("; "))
     }
+
+    /// How many values, and by class where there are several.
+    fn values(&self) -> (u64, String) {
+        let values = self.values.values().sum();
+        let classes = counts(&self.values);
+        (values, if self.values.len() > 1 { format!(" ({classes})") } else { String::new() })
+    }
+
+    /// Each row in one line, whatever it is in the Rust: for a kind that has most of them.
+    fn numbers(&self) -> String {
+        let mut numbers: BTreeMap<u64, u64> = BTreeMap::new();
+        for ((_, number, _), count) in &self.rows {
+            *numbers.entry(*number).or_default() += count;
+        }
+        format!("  rows reached, number and count: {}\n", counts(&numbers))
+    }
+
+    fn with_rust(&self) -> String {
+        let (down, down_text) = self.rows(InRust::TurnedDown);
+        let (waits, waits_text) = self.rows(InRust::Waits);
+        let (alone, alone_text) = self.rows(InRust::Outside);
+        let (values, by_class) = self.values();
+        let mut text = format!("  compared with the Rust: {}\n", values + down + waits);
+        text += &format!("    both answer: {values}{by_class}\n");
+        if down > 0 {
+            text += &format!("    both turn down, number from document 01: {down} ({down_text})\n");
+        }
+        if waits > 0 {
+            text += &format!("    both wait: {waits} ({waits_text})\n{}", self.numbers());
+        }
+        text += &self.waits.to_string();
+        if alone > 0 {
+            text += &format!("  compared with document 01 alone: {alone} ({alone_text})\n");
+        }
+        if self.not_shown > 0 {
+            let not_shown = self.not_shown;
+            text += &format!("  the Rust not asked, ckb-types' epoch is not in the text: {not_shown}\n");
+        }
+        text
+    }
+
+    /// Of a kind that the Rust does not have.
+    fn without_rust(&self) -> String {
+        let (values, by_class) = self.values();
+        let (down, down_text) = self.rows(InRust::Outside);
+        format!(
+            "  not in the Rust; compared with {} alone: {}\n    both answer: {values}{by_class}\n    both turn down: \
+             {down} ({down_text})\n{}",
+            self.words,
+            values + down,
+            self.numbers()
+        )
+    }
+}
+
+/// Each with its count.
+fn counts<T: fmt::Display>(of: &BTreeMap<T, u64>) -> String {
+    let counts: Vec<String> = of.iter().map(|(what, count)| format!("{what}: {count}")).collect();
+    counts.join("; ")
 }
 
 impl fmt::Display for Tally {
     fn fmt(&self, f: &mut fmt::Formatter<'_>) -> fmt::Result {
-        let (down, down_text) = self.rows(InRust::TurnedDown);
-        let (waits, waits_text) = self.rows(InRust::Waits);
-        let (alone, alone_text) = self.rows(InRust::Outside);
-        let port = if self.port { "" } else { ", THE PORT WAS NOT CALLED" };
+        let port = match (self.port, self.in_rust) {
+            (true, _) => "",
+            (false, true) => ", THE PORT WAS NOT CALLED",
+            (false, false) => ", NOTHING WAS COMPARED",
+        };
         let seconds = self.time.as_secs_f64();
         writeln!(
             f,
             "{}: {} rounds in {seconds:.1} s, {} failed{port}",
             self.kind, self.rounds, self.failures
         )?;
-        let values: u64 = self.values.values().sum();
-        let classes: Vec<String> =
-            self.values.iter().map(|(class, count)| format!("{class}: {count}")).collect();
-        writeln!(f, "  compared with the Rust: {}", values + down + waits)?;
-        let by_class = if classes.len() > 1 { format!(" ({})", classes.join("; ")) } else { String::new() };
-        writeln!(f, "    both answer: {values}{by_class}")?;
-        if down > 0 {
-            writeln!(f, "    both turn down, number from document 01: {down} ({down_text})")?;
-        }
-        if waits > 0 {
-            writeln!(f, "    both wait: {waits} ({waits_text})")?;
-        }
-        if waits > 0 {
-            // A kind that waits has most rows: each of them in one line, whatever it is in the Rust.
-            let mut numbers: BTreeMap<u64, u64> = BTreeMap::new();
-            for ((_, number, _), count) in &self.rows {
-                *numbers.entry(*number).or_default() += count;
-            }
-            let numbers: Vec<String> =
-                numbers.iter().map(|(number, count)| format!("{number}: {count}")).collect();
-            writeln!(f, "  rows reached, number and count: {}", numbers.join("; "))?;
-        }
-        write!(f, "{}", self.waits)?;
-        if alone > 0 {
-            writeln!(f, "  compared with document 01 alone: {alone} ({alone_text})")?;
-        }
-        if self.not_shown > 0 {
-            writeln!(f, "  the Rust not asked, ckb-types' epoch is not in the text: {}", self.not_shown)?;
+        let text = if self.in_rust { self.with_rust() } else { self.without_rust() };
+        write!(f, "{text}")?;
+        if !self.situations.is_empty() {
+            writeln!(f, "  situations: {}", counts(&self.situations))?;
         }
         Ok(())
     }
 }
 
 /// The input of a case: first the edges, then the grid, then random ones.
-fn input<K: Kind>(edges: &[K::Input], seed: u64, case: u64) -> K::Input {
+pub fn input<K: Kind>(edges: &[K::Input], seed: u64, case: u64) -> K::Input {
     let count = edges.len() as u64;
     if case < count {
         edges[case as usize].clone()
@@ -136,7 +180,7 @@ struct Answers<V> {
 
 fn answers<K: Kind>(input: &K::Input, seed: u64, case: u64, port: bool) -> Answers<K::Value> {
     let document = K::document(input);
-    let with_rust = document.inside() && !K::not_shown(input);
+    let with_rust = K::with_rust(input, &document);
     Answers {
         rust: with_rust.then(|| calls::caught(|| K::rust(input))),
         port: port.then(|| K::port(input, &mut Random::of(seed, K::EXPORT, case))),
@@ -149,9 +193,9 @@ fn answers<K: Kind>(input: &K::Input, seed: u64, case: u64, port: bool) -> Answe
 }
 
 impl<V: PartialEq> Answers<V> {
-    /// What is wrong, if anything.
-    fn faults(&self) -> Vec<&'static str> {
-        let mut faults = vec![];
+    /// What is wrong, if anything. `words` is whose the document's side are.
+    fn faults(&self, words: &str) -> Vec<String> {
+        let mut faults: Vec<String> = vec![];
         let rust_as_document = match (&self.rust, &self.document) {
             (None, _) => true,
             (Some(Rust::Value(a)), Document::Value(b)) => a == b,
@@ -162,16 +206,16 @@ impl<V: PartialEq> Answers<V> {
             _ => false,
         };
         if let Some(Rust::NotModelled(_)) = &self.rust {
-            faults.push("the Rust's text hands a stand-in what no document describes");
+            faults.push("the Rust's text hands a stand-in what no document describes".to_string());
         } else if !rust_as_document {
-            faults.push("the Rust parts from document 01");
+            faults.push(format!("the Rust parts from {words}"));
         }
-        faults.extend(self.further.err());
+        faults.extend(self.further.err().map(str::to_string));
         let Some(port) = &self.port else {
             return faults;
         };
         let Ok(port) = port else {
-            faults.push("the port broke the calling convention");
+            faults.push("the port broke the calling convention".to_string());
             return faults;
         };
         let port_as_document = match (port, &self.document) {
@@ -182,7 +226,7 @@ impl<V: PartialEq> Answers<V> {
             _ => false,
         };
         if !port_as_document {
-            faults.push("the port parts from document 01");
+            faults.push(format!("the port parts from {words}"));
         }
         let port_as_rust = match (port, &self.rust) {
             (_, None | Some(Rust::NotModelled(_))) => true,
@@ -192,7 +236,7 @@ impl<V: PartialEq> Answers<V> {
             _ => false,
         };
         if !port_as_rust {
-            faults.push("the port parts from the Rust");
+            faults.push("the port parts from the Rust".to_string());
         }
         faults
     }
@@ -203,6 +247,7 @@ impl<V: PartialEq> Answers<V> {
             Document::Row(row, place) => format!("refused {} at {place} ({})", row.number, row.cause),
         };
         let rust = match &self.rust {
+            None if !K::IN_RUST => "has no such operation".to_string(),
             None => "not asked: outside the equality, or not shown by its text".to_string(),
             Some(Rust::Value(value)) => K::show_value(value),
             Some(Rust::TurnedDown) => "turned down".to_string(),
@@ -220,9 +265,9 @@ impl<V: PartialEq> Answers<V> {
             0 => String::new(),
             length => format!(", output buffer of {length} bytes"),
         };
-        let input = K::show_input(input);
+        let (input, words) = (K::show_input(input), format!("{}:", K::WORDS));
         format!(
-            "  input:       {input}{output}\n  document 01: {document}\n  the Rust:    {rust}\n  the port:    {port}"
+            "  input:       {input}{output}\n  {words:12} {document}\n  the Rust:    {rust}\n  the port:    {port}"
         )
     }
 }
@@ -235,14 +280,20 @@ fn class<K: Kind>(input: &K::Input, document: &Document<K::Value>) -> String {
     }
 }
 
-/// The numbers and classes that document 01 answers in the first cases.
+/// The numbers, causes and classes that the document answers in the first cases, and their situations.
 pub fn reached<K: Kind>(cases: u64) -> BTreeSet<String> {
     let edges = K::edges();
-    let answer = |case| {
+    let mut reached = BTreeSet::new();
+    for case in 0..cases {
         let input = input::<K>(&edges, 1, case);
-        class::<K>(&input, &K::document(&input))
-    };
-    (0..cases).map(answer).collect()
+        let document = K::document(&input);
+        reached.insert(class::<K>(&input, &document));
+        if let Document::Row(row, _) = &document {
+            reached.insert(row.cause.to_string());
+        }
+        reached.extend(K::situations(&input, &document).into_iter().map(str::to_string));
+    }
+    reached
 }
 
 /// The waits of the walk that document 01 answers in the first cases.
@@ -262,12 +313,15 @@ pub fn compare<K: Kind>(options: &Options) -> Tally {
     let start = Instant::now();
     let mut tally = Tally {
         kind: K::NAME,
+        words: K::WORDS,
+        in_rust: K::IN_RUST,
         port: options.port,
         rounds: 0,
         values: BTreeMap::new(),
         rows: BTreeMap::new(),
         not_shown: 0,
         waits: Waits::default(),
+        situations: BTreeMap::new(),
         failures: 0,
         time: Duration::ZERO,
     };
@@ -277,7 +331,7 @@ pub fn compare<K: Kind>(options: &Options) -> Tally {
         let input = input::<K>(&edges, options.seed, case);
         let answers = answers::<K>(&input, options.seed, case, options.port);
         tally.count::<K>(&input, &answers.document);
-        let faults = answers.faults();
+        let faults = answers.faults(K::WORDS);
         if !faults.is_empty() {
             tally.failures += 1;
             // An answer that is not modelled tells nothing about values: it is shown once, and others are looked for.
@@ -309,7 +363,7 @@ pub fn compare<K: Kind>(options: &Options) -> Tally {
 pub fn one<K: Kind>(seed: u64, case: u64, port: bool) -> bool {
     let input = input::<K>(&K::edges(), seed, case);
     let answers = answers::<K>(&input, seed, case, port);
-    let faults = answers.faults();
+    let faults = answers.faults(K::WORDS);
     println!("{} case {case} of seed {seed}\n{}", K::NAME, answers.show::<K>(&input));
     match faults.is_empty() {
         true => println!("  agreed"),
@@ -318,13 +372,13 @@ pub fn one<K: Kind>(seed: u64, case: u64, port: bool) -> bool {
     faults.is_empty()
 }
 
-/// A line `kind inputs = answer` of the dump with the Rust's answer, and what it is alike with. A row is told by document
+/// A line `kind inputs = answer` of the dump with the Rust's answer, and what it is alike with. Of a kind that is not in the
+/// Rust it has the document's. A row is told by document
 /// 01's number and place, and the Rust has to turn it down or wait too where it can be asked.
 fn line<K: Kind>(input: &K::Input) -> Option<(String, String)> {
     let document = K::document(input);
     let class = class::<K>(input, &document);
-    let with_rust = document.inside() && !K::not_shown(input);
-    let rust = with_rust.then(|| calls::caught(|| K::rust(input)));
+    let rust = K::with_rust(input, &document).then(|| calls::caught(|| K::rust(input)));
     // Waits of the walk are alike, as they are in the Rust.
     let alike = match &rust {
         Some(Rust::Wait(wait)) => wait.to_string(),
@@ -332,6 +386,9 @@ fn line<K: Kind>(input: &K::Input) -> Option<(String, String)> {
     };
     let answer = match (rust, document) {
         (Some(Rust::Value(value)), _) => format!("{} {}", K::DUMP_FRONT, K::show_value(&value)),
+        (None, Document::Value(value)) if !K::IN_RUST => {
+            format!("{} {}", K::DUMP_FRONT, K::show_value(&value))
+        }
         // The status, and of the answer buffer number and place.
         (None, Document::Row(row, place)) if K::DUMP_ROWS => format!("{0} {0} {place}", row.number),
         (Some(Rust::TurnedDown), Document::Row(row, place)) => format!("{0} {0} {place}", row.number),

@@ -1,6 +1,8 @@
 //! Checks of the oracle itself: published vectors, one implementation against another, document 01's marked rows on
 //! the sliced text. Panics at the first that fails.
 
+mod journal;
+
 use crate::document::settlement::{self, Data, Fate, Request, Walked};
 use crate::document::{self, Document, Epoch};
 use crate::kinds::choice::Choice;
@@ -45,6 +47,7 @@ pub fn run() {
     reached();
     waits_of_the_walk();
     runs_of_updates();
+    journal::run();
     processes();
     println!("selftest: all passed, {} build", crate::build());
 }

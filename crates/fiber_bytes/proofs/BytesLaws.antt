@@ -11,7 +11,7 @@ use lib.ListN.{length, get_or, set, take, drop, replicate, drop_of_length-le, le
 use lib.Seq.{sets, length-sets, sets-eq, length-take-le, drop-cons, drop-drop, take-add, take-take, take_all, set_out}
 use lib.Bits.{bit_or}
 use Rattle.std.specs.List.{fold}
-use Rattle.std.specs.Int.{w64, from_le_bytes, to_le_bytes}
+use Rattle.std.specs.Int.{Width, byte_len, byte_worth, sum_through, bytes_low_first, from_le_bytes, to_le_bytes}
 use Rattle.std.proofs.Common.{reverse}
 use Rattle.std.proofs.lemmas.Bool.{cases_lt}
 use Rattle.std.proofs.lemmas.Nat.{or_shifted}
@@ -92,15 +92,27 @@ le_from [] (suc i) = refl
 le_from (x ∷ xs) zero = refl
 le_from (x ∷ xs) (suc i) = le_from xs i
 
--- `u64::from_le_bytes`
-pub le_eight : (s : List ℕ) → length s ≡ 8 → from_le_bytes w64 s ≡ le s
+-- the bytes up to one, each by what it is worth there
+le_through : (s : List ℕ) (k : ℕ) → k < length s → sum_through (λ i. byte_worth i (get_or s i 0)) k ≡ le (part s 0 (suc k))
 unfolding le
-le_eight s n =
-    let o : le (drop 8 s) ≡ 0 = rw (drop_of_length-le s {i = 8} (omega arith)) refl in
-    let e : get_or s 0 0 + get_or s 1 0 * 256 + get_or s 2 0 * 256 ^ 2 + get_or s 3 0 * 256 ^ 3
-    + get_or s 4 0 * 256 ^ 4 + get_or s 5 0 * 256 ^ 5 + get_or s 6 0 * 256 ^ 6 + get_or s 7 0 * 256 ^ 7 ≡ le s =
-    omega (arith, o, le_from s 0, le_from s 1, le_from s 2, le_from s 3, le_from s 4, le_from s 5, le_from s 6, le_from s 7) in
-    e
+le_through s zero h = rw (part_one s 0 h) (omega arith)
+le_through s (suc k) h =
+    let m : suc (suc k) ≡ suc k + 1 = omega arith in
+    let o : 0 + suc k ≡ suc k = omega arith in
+    let e : part s 0 (suc (suc k)) ≡ part s 0 (suc k) ++ get_or s (suc k) 0 ∷ [] =
+    ap (part s 0) m
+    ∙ part_add s 0 (suc k) 1
+    ∙ ap (λ (i : ℕ). part s 0 (suc k) ++ part s i 1) o
+    ∙ ap (λ (l : List ℕ). part s 0 (suc k) ++ l) (part_one s (suc k) h) in
+    let n : length (part s 0 (suc k)) ≡ suc k = part_length s 0 (suc k) (omega arith) in
+    let last : le (get_or s (suc k) 0 ∷ []) ≡ get_or s (suc k) 0 = omega arith in
+    rw (e, le_append (part s 0 (suc k)) (get_or s (suc k) 0 ∷ []), n, last, le_through s k (omega arith), mul_comm (get_or s (suc k) 0) (256 ^ suc k)) refl
+
+-- `from_le_bytes` at a width
+pub le_wide : (w : Width) (s : List ℕ) → 0 < byte_len w → length s ≡ byte_len w → from_le_bytes w s ≡ le s
+le_wide w s h n =
+    let e : suc (byte_len w - 1) ≡ length s = omega arith in
+    le_through s (byte_len w - 1) (omega arith) ∙ ap (λ (k : ℕ). le (part s 0 k)) e ∙ ap le (take_all (length s) s (omega arith))
 
 le_below : (s : List ℕ) → ((i : ℕ) → get_or s i 0 < 2 ^ 8) → le s < 256 ^ length s
 unfolding le
@@ -164,10 +176,22 @@ unfolding le_bytes
 le_bytes_length zero x = refl
 le_bytes_length (suc n) x = ap suc (le_bytes_length n (x / 256))
 
--- `x.to_le_bytes()`, where y is x in other words
-pub le_bytes_eight : (x y : ℕ) {l : List ℕ} → l ≡ to_le_bytes w64 y → y ≡ x → l ≡ le_bytes 8 x
+-- the bytes from one on are those of what is left of the number
+low_first : (i k x : ℕ) → bytes_low_first i k x ≡ le_bytes k (x / 256 ^ i)
 unfolding le_bytes
-le_bytes_eight x y e f = e ∙ ap (to_le_bytes w64) f ∙ simp div-div-eq-div-mul
+low_first i zero x = refl
+low_first zero (suc k) x =
+    let one : x / 256 ^ 0 ≡ x = omega (arith, pow-zero 256) in
+    rw one (ap (λ (l : List ℕ). x % 256 ∷ l) (low_first 1 k x))
+low_first (suc i) (suc k) x =
+    let next : x / 256 ^ suc i / 256 ≡ x / 256 ^ suc (suc i) = div-div-eq-div-mul x (256 ^ suc i) 256 ∙ ap (λ (n : ℕ). x / n) (sym (pow-suc 256 (suc i))) in
+    rw next (ap (λ (l : List ℕ). x / 256 ^ suc i % 256 ∷ l) (low_first (suc (suc i)) k x))
+
+-- `x.to_le_bytes()` at a width, where y is x in other words
+pub le_bytes_wide : (w : Width) (x y : ℕ) {l : List ℕ} → l ≡ to_le_bytes w y → y ≡ x → l ≡ le_bytes (byte_len w) x
+le_bytes_wide w x y e f =
+    let one : x / 256 ^ 0 ≡ x = omega (arith, pow-zero 256) in
+    e ∙ ap (to_le_bytes w) f ∙ low_first 0 (byte_len w) x ∙ ap (le_bytes (byte_len w)) one
 
 put_end : (l src : List ℕ) (at i : ℕ) → i ≡ min (length src) (length l - at) → l ≡ sets l (at + i) (drop i src)
 put_end l src at i e = ⊎_elim (λ h. sym (sets_out (drop i src) l (at + i) (omega arith))) whole (cases_lt (length l - at) (length src))

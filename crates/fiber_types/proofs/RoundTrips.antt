@@ -27,6 +27,10 @@ use Rattle.fiber_types.proofs.RecordsLaws.{tlc_bytes_length, unlock_bytes_length
 pub Bytes : List ℕ → Type 0
 Bytes s = (k : ℕ) → get_or s k 0 < 256
 
+pub all_bytes : (s : List ℕ) → ((k : ℕ) → get_or s k 0 < 256) → Bytes s
+unfolding Bytes
+all_bytes s h = h
+
 -- ---- numbers
 
 pub le_le_bytes : (n x : ℕ) → x < 256 ^ n → le (le_bytes n x) ≡ x

@@ -1,6 +1,7 @@
-// One line of the list: a call of a function of the C interface, and what the Rust answered.
+// One line of the list: a call of a function of the C interface, and what the Rust answered, or of a journal change request W2's words.
 
 use crate::kind::Kind;
+use journal_c::calls::{fiber_journal_append, fiber_journal_walk};
 use settlement_c::choose::fiber_settlement_choose;
 use settlement_c::first::fiber_settlement_first_state;
 use settlement_c::lower::{
@@ -59,8 +60,8 @@ fn bytes_of(alloc: Global, fields: &str) -> io::Result<Vec<u8>> {
     Ok(bytes)
 }
 
-// A flag as it is told: a byte.
-fn flag(number: u64) -> Option<u8> {
+// A byte by itself, a flag or an unlock's, as it is told.
+fn byte(number: u64) -> Option<u8> {
     u8::try_from(number).ok()
 }
 
@@ -93,6 +94,14 @@ impl Case {
         })
     }
 
+    // What the output buffer begins with before the call and after it: an append's is the journal's slice.
+    fn lent(&self) -> &[u8] {
+        match (self.kind, self.inputs.strings.first()) {
+            (Kind::Append, Some(journal)) => journal.as_slice(),
+            _ => &[],
+        }
+    }
+
     // Whether the port answers as told: status, answer and output, with what is behind them as it was. Where the inputs
     // are not those of the call, it does not.
     pub fn agrees(&self) -> bool {
@@ -100,13 +109,17 @@ impl Case {
         let mut output = [UNTOUCHED; 1024];
         self.call(&mut output, &mut answer) == Some(self.status)
             && holds(&answer, &self.answer)
-            && holds(&output, &self.output)
+            && output
+                .strip_prefix(self.lent())
+                .is_some_and(|rest| holds(rest, &self.output))
     }
 
     // The status of the call, whose output buffer is as long as the first number says.
     fn call(&self, buffer: &mut [u8], answer: &mut [u8]) -> Option<u64> {
         let (room, numbers) = self.inputs.numbers.split_first()?;
         let out = buffer.get_mut(..*room as usize)?;
+        let lent = self.lent();
+        out.get_mut(..lent.len())?.copy_from_slice(lent);
         let strings = self.inputs.strings.as_slice();
         Some(match (self.kind, numbers, strings) {
             (Kind::Mul, [number, index, length, numerator, denominator], []) => {
@@ -163,7 +176,7 @@ impl Case {
                 [tlcs, local_key, remote_key],
             ) => fiber_settlement_first_state(
                 *h,
-                flag(*for_remote)?,
+                byte(*for_remote)?,
                 *local_low,
                 *local_high,
                 *remote_low,
@@ -203,8 +216,8 @@ impl Case {
                 ],
             ) => fiber_settlement_choose(
                 *h,
-                flag(*for_remote)?,
-                flag(*is_later)?,
+                byte(*for_remote)?,
+                byte(*is_later)?,
                 *time,
                 *header_number,
                 *header_index,
@@ -226,6 +239,18 @@ impl Case {
                 out,
                 answer,
             ),
+            (Kind::Append, [length, unlock, flag, amount_low, amount_high], [_, channel]) =>
+                fiber_journal_append(
+                    out,
+                    *length,
+                    channel,
+                    byte(*unlock)?,
+                    byte(*flag)?,
+                    *amount_low,
+                    *amount_high,
+                    answer,
+                ),
+            (Kind::Walk, [length], [journal]) => fiber_journal_walk(journal, *length, out, answer),
             _ => return None,
         })
     }

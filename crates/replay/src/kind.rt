@@ -16,6 +16,8 @@ pub enum Kind {
     Update,
     First,
     Pick,
+    Append,
+    Walk,
 }
 
 // A word that is no kind's.
@@ -37,6 +39,8 @@ impl FromStr for Kind {
             "update" => Ok(Kind::Update),
             "first" => Ok(Kind::First),
             "pick" => Ok(Kind::Pick),
+            "append" => Ok(Kind::Append),
+            "walk" => Ok(Kind::Walk),
             _ => Err(UnknownKind),
         }
     }
@@ -55,6 +59,8 @@ impl fmt::Display for Kind {
             Kind::Update => "update",
             Kind::First => "first",
             Kind::Pick => "pick",
+            Kind::Append => "append",
+            Kind::Walk => "walk",
         })
     }
 }

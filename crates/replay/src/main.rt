@@ -1,4 +1,4 @@
-// Replays data/oracle.txt, a fixed list of the Rust's answers, and prints how many of the port's answers agree.
+// Replays data/oracle.txt, a fixed list of the Rust's answers and, at its end, of those of a journal's calls, which the Rust does not have, and prints how many of the port's answers agree.
 //
 // The list's top says how it was made and what a line holds. Each case is one call of a function of the C interface, and
 // status, answer buffer and output buffer are compared whole, so that a byte written where none belongs is seen.

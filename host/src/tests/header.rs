@@ -10,7 +10,8 @@ const HEADER: &str = include_str!("../../../include/fiber_settlement.h");
 fn defines() -> Vec<(&'static str, &'static str)> {
     HEADER
         .lines()
-        .filter_map(|line| line.strip_prefix("#define FIBER_SETTLEMENT_"))
+        .filter_map(|line| line.strip_prefix("#define FIBER_"))
+        .map(|line| line.strip_prefix("SETTLEMENT_").unwrap_or(line))
         .map(|line| line.split("/*").next().expect("a front").trim())
         .map(|line| match line.find(") ") {
             // A macro with parameters, which its name has with it.
@@ -58,13 +59,11 @@ fn every_function_of_the_header_is_bound() {
     let bound = include_str!("../c.rs");
     let declared: Vec<&str> = HEADER
         .split(';')
-        .filter_map(|text| text.rsplit('\n').find(|line| line.contains(" fiber_settlement_")))
-        .filter(|line| {
-            line.starts_with("uint64_t fiber_settlement_") || line.starts_with("void fiber_settlement_")
-        })
+        .filter_map(|text| text.rsplit('\n').find(|line| line.contains(" fiber_")))
+        .filter(|line| line.starts_with("uint64_t fiber_") || line.starts_with("void fiber_"))
         .filter_map(|line| line.split(' ').nth(1)?.split('(').next())
         .collect();
-    assert!(declared.len() >= 12, "{declared:?}");
+    assert!(declared.len() >= 14, "{declared:?}");
     for name in declared {
         assert!(bound.contains(&format!("pub fn {name}(")), "{name}");
     }

@@ -531,3 +531,54 @@ fn an_answer_that_the_header_does_not_have() {
     assert_eq!(written(157), answer("UPDATE_LENGTH", 157));
     assert_eq!(written(158), None);
 }
+
+/// A host that keeps the length by itself, and the one from before: the library cannot see it, and the entry is lost.
+#[test]
+fn an_append_with_the_length_from_before() {
+    let entry = |amount| JournalEntry { channel: ChannelId([7; 32]), unlock: 0xFE, flag: 0, amount };
+    let raw = |slice: &mut [u8], length, amount| {
+        c::journal_append(slice, length, &c::Entry { channel: &[7; 32], unlock: 0xFE, flag: 0, amount })
+    };
+    let mut slice = [0; 186];
+    assert_eq!((raw(&mut slice, 0, 30), raw(&mut slice, 0, 500)), (Ok(62), Ok(62)));
+    assert_eq!(Journal::of(&mut slice, 62).expect("a journal").entries(), Ok(vec![entry(500)]));
+    // Here the length goes with the bytes.
+    let mut journal = Journal::empty(&mut slice);
+    assert!(journal.append(&entry(30)).is_ok() && journal.append(&entry(500)).is_ok());
+    assert_eq!(journal.entries(), Ok(vec![entry(500), entry(30)]));
+}
+
+/// Unlock byte and flag are one byte each, and a journal takes them as given: names keep them apart.
+#[test]
+fn an_unlock_and_its_flag_in_the_wrong_order() {
+    let cell = Cell::new(HashLength::Full, Commitment::Theirs);
+    let request = cell.request(0, 2);
+    let mut out = vec![0; request.output_length()];
+    let chosen = unlocked(choose(&request, &mut out));
+    let right = JournalEntry::of(ChannelId([7; 32]), &chosen);
+    assert_eq!((right.unlock, right.flag), (0, 1));
+    let wrong = JournalEntry { unlock: right.flag, flag: right.unlock, ..right };
+    let mut slice = [0; 124];
+    let mut journal = Journal::empty(&mut slice);
+    assert!(journal.append(&wrong).is_ok() && journal.append(&right).is_ok());
+    assert_eq!(journal.entries(), Ok(vec![right, wrong]));
+}
+
+/// The length of one journal with the bytes of another, and a journal that is read from its middle.
+#[test]
+fn a_length_and_bytes_that_do_not_belong_together() {
+    let entry = JournalEntry { channel: ChannelId([7; 32]), unlock: 0xFE, flag: 0, amount: 5 };
+    let mut slice = [0x55; 310];
+    let mut journal = Journal::empty(&mut slice);
+    for _ in 0..3 {
+        journal.append(&entry).expect("room");
+    }
+    // Longer than it is, shorter than it is, counted in entries, and cut at its front.
+    assert_eq!(Journal::of(&mut slice, 248).err(), Some(JournalRefusal::Broken { at: 236 }));
+    assert_eq!(Journal::of(&mut slice, 100).err(), Some(JournalRefusal::Broken { at: 88 }));
+    assert_eq!(Journal::of(&mut slice, 3).err(), Some(JournalRefusal::Broken { at: 0 }));
+    assert_eq!(Journal::of(&mut slice[62..], 124).err(), Some(JournalRefusal::Broken { at: 112 }));
+    assert_eq!(Journal::of(&mut slice, 311).err(), Some(JournalRefusal::NotWell));
+    // A beginning of whole entries is a journal too: none of the calls can tell that it had more.
+    assert_eq!(Journal::of(&mut slice, 124).map(|journal| journal.len()), Ok(124));
+}

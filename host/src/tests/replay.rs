@@ -1,4 +1,5 @@
-//! A fixed list of the reference's own answers, through the functions of c.rs. Its top tells what a line has.
+//! A fixed list of the reference's own answers, and for the journal, which it does not have, of those that the request's
+//! words give, through the functions of c.rs. Its top tells what a line has.
 
 use std::fs;
 use std::path::Path;
@@ -16,8 +17,8 @@ impl Inputs<'_> {
         self.0.next().expect("a field").parse().expect("a number")
     }
 
-    fn flag(&mut self) -> u8 {
-        self.number().try_into().expect("a flag")
+    fn byte(&mut self) -> u8 {
+        self.number().try_into().expect("a byte")
     }
 
     fn epoch(&mut self) -> c::Parts {
@@ -63,7 +64,7 @@ fn written(length: usize, call: impl FnOnce(&mut [u8]) -> Result<usize, Code>) -
 }
 
 fn first(input: &mut Inputs, length: usize) -> Result<String, Code> {
-    let (h, for_remote) = (input.number(), input.flag());
+    let (h, for_remote) = (input.number(), input.byte());
     let (local_amount, remote_amount) = (input.amount(), input.amount());
     let [tlcs, local_key, remote_key] = [(); 3].map(|()| input.bytes());
     let (tlcs, local_key, remote_key) = (&tlcs, &local_key, &remote_key);
@@ -71,8 +72,20 @@ fn first(input: &mut Inputs, length: usize) -> Result<String, Code> {
     written(length, |out| c::first_state(&of, out))
 }
 
+/// The output is the journal's slice: it begins with the journal, and what is told was written behind it.
+fn append(input: &mut Inputs, size: usize) -> Result<String, Code> {
+    let (length, unlock, flag, amount) = (input.number(), input.byte(), input.byte(), input.amount());
+    let [journal, channel] = [(); 2].map(|()| input.bytes());
+    let mut slice = [&journal[..], &vec![0x55; size + 10 - journal.len()]].concat();
+    let entry = c::Entry { channel: &channel, unlock, flag, amount };
+    let told = c::journal_append(&mut slice[..size], length, &entry);
+    let end = *told.as_ref().unwrap_or(&journal.len());
+    assert!(slice.starts_with(&journal) && slice[end..].iter().all(|byte| *byte == 0x55));
+    told.map(|end| format!("0 0 0{} : {}", numbers(&[end as u64]), hex(&slice[journal.len()..end])))
+}
+
 fn pick(input: &mut Inputs, length: usize) -> Result<String, Code> {
-    let (h, for_remote, is_later, time) = (input.number(), input.flag(), input.flag(), input.number());
+    let (h, for_remote, is_later, time) = (input.number(), input.byte(), input.byte(), input.number());
     let (header, current) = (input.epoch(), input.epoch());
     let (local_amount, remote_amount) = (input.amount(), input.amount());
     let [args, tlcs, local_key, remote_key, tracked, preimages, witness] = [(); 7].map(|()| input.bytes());
@@ -141,6 +154,11 @@ fn answer(kind: &str, input: &mut Inputs) -> Result<String, Code> {
         }
         "first" => return first(input, length),
         "pick" => return pick(input, length),
+        "append" => return append(input, length),
+        "walk" => {
+            let (of_journal, slice) = (input.number(), input.bytes());
+            return written(length, |out| c::journal_walk(&slice, of_journal, out));
+        }
         kind => panic!("a line of kind {kind}"),
     })
 }
@@ -165,6 +183,8 @@ fn answers_of_the_reference() {
     let list = fs::read_to_string(crates.join("replay/data/oracle.txt")).expect("the list");
     let lines: Vec<&str> = list.lines().filter(|text| !text.starts_with('#')).collect();
     lines.iter().for_each(|text| line(text));
-    let picks = lines.iter().filter(|text| text.starts_with("pick ")).count();
+    let of = |kind: &str| lines.iter().filter(|text| text.split(' ').next() == Some(kind)).count();
+    let (picks, appends, walks) = (of("pick"), of("append"), of("walk"));
     assert!(lines.len() >= 1_600 && picks >= 140, "{} lines, {picks} choices", lines.len());
+    assert!(appends >= 20 && walks >= 20, "{appends} appends, {walks} walks");
 }

@@ -1,0 +1,2 @@
+-- What the journal's calls over C leave.
+pub mod JournalCalls
