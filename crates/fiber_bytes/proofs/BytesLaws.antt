@@ -1,10 +1,10 @@
 -- Laws of `specs/Bytes.antt`: numbers in bytes by halves, and runs of stores.
 -- Assumes nothing.
-use mathlib.Core.Path.{◌≡◌, refl, sym, ap, ◌∙◌}
+use mathlib.Core.Path.{◌≡◌, refl, sym, ap, ap₂, ◌∙◌}
 use mathlib.Core.List.{List, [], ◌∷◌, ◌++◌, append-nil, append_assoc, flat_map}
 use mathlib.Core.Logic.{⊎_elim}
 use Prim.Native.Nat.{ℕ, zero, suc, min, ◌+◌, ◌-◌, ◌*◌, ◌/◌, ◌%◌, ◌^◌, ◌≤◌, ◌<◌}
-use native.Mathlib.Nat.{add-zero, add-suc, suc-add, zero-add, mul_assoc, mul_comm, mul-zero, mul-suc, pow-zero, pow-suc, div-div-eq-div-mul, pow-le-pow_right}
+use native.Mathlib.Nat.{add-zero, add-suc, suc-add, zero-add, mul_assoc, mul_comm, mul-zero, mul-suc, pow-zero, pow-suc, div-one, div-div-eq-div-mul, pow-le-pow_right}
 use native.Mathlib.Numerals.{add-one}
 use native.Mathlib.Omega.{arith}
 use lib.ListN.{length, get_or, set, take, drop, replicate, drop_of_length-le, length-append, length-take, length-drop, take-append-drop}
@@ -176,6 +176,15 @@ unfolding le_bytes
 le_bytes_length zero x = refl
 le_bytes_length (suc n) x = ap suc (le_bytes_length n (x / 256))
 
+-- the lowest m + n bytes, by the first m and the others
+pub le_bytes_add : (m n x : ℕ) → le_bytes (m + n) x ≡ le_bytes m x ++ le_bytes n (x / 256 ^ m)
+unfolding le_bytes
+le_bytes_add zero n x = ap₂ (λ (k y : ℕ). le_bytes k y) (zero-add n) (sym (ap (λ (d : ℕ). x / d) (pow-zero 256) ∙ div-one x))
+le_bytes_add (suc m) n x =
+    let e : x / 256 / 256 ^ m ≡ x / 256 ^ suc m = div-div-eq-div-mul x 256 (256 ^ m) ∙ ap (λ (d : ℕ). x / d) (mul_comm 256 (256 ^ m) ∙ sym (pow-suc 256 m)) in
+    ap (λ (k : ℕ). le_bytes k x) (suc-add m n)
+    ∙ ap (λ (l : List ℕ). x % 256 ∷ l) (le_bytes_add m n (x / 256) ∙ ap (λ (y : ℕ). le_bytes m (x / 256) ++ le_bytes n y) e)
+
 -- the bytes from one on are those of what is left of the number
 low_first : (i k x : ℕ) → bytes_low_first i k x ≡ le_bytes k (x / 256 ^ i)
 unfolding le_bytes
@@ -193,7 +202,11 @@ le_bytes_wide w x y e f =
     let one : x / 256 ^ 0 ≡ x = omega (arith, pow-zero 256) in
     e ∙ ap (to_le_bytes w) f ∙ low_first 0 (byte_len w) x ∙ ap (le_bytes (byte_len w)) one
 
-put_end : (l src : List ℕ) (at i : ℕ) → i ≡ min (length src) (length l - at) → l ≡ sets l (at + i) (drop i src)
+-- A loop that stores one after the other: what is left to store, from here, gives what the whole gives.
+pub put_more : (l src : List ℕ) (at i : ℕ) → i < length src → sets (set l (at + i) (get_or src i 0)) (at + (i + 1)) (drop (i + 1) src) ≡ sets l (at + i) (drop i src)
+put_more l src at i h = rw (add-one, add-suc, drop-cons src i 0 h)
+
+pub put_end : (l src : List ℕ) (at i : ℕ) → i ≡ min (length src) (length l - at) → l ≡ sets l (at + i) (drop i src)
 put_end l src at i e = ⊎_elim (λ h. sym (sets_out (drop i src) l (at + i) (omega arith))) whole (cases_lt (length l - at) (length src))
   where
     whole : length src ≤ length l - at → l ≡ sets l (at + i) (drop i src)

@@ -47,7 +47,10 @@ pub fn put(out: &mut [u8], at: usize, src: &[u8])
 {
     let start = at.min(out.len());
     let n = src.len().min(out.len() - start);
-    out[start..start + n].copy_from_slice(&src[..n]);
+    // By place: a loop becomes a call of memcpy, which each host has, and `copy_from_slice` one of memmove.
+    for i in 0..n {
+        out[start + i] = src[i];
+    }
 }
 
 // Writes the eight bytes of x, lowest first, from a place on. Bytes that have no room are dropped.

@@ -4,24 +4,26 @@ use Prim.Native.Nat.{ℕ, zero, suc, ◌+◌, ◌-◌, ◌*◌, ◌/◌, ◌^◌
 use native.Mathlib.Nat.{suc-mul}
 use native.Mathlib.Omega.{arith}
 use mathlib.Core.Path.{◌≡◌, refl, sym, ap, ◌∙◌}
-use mathlib.Core.Bool.{Bool, true, false, cond, and-eq-true_iff}
+use mathlib.Core.Bool.{Bool, true, false, cond, ◌&&◌, and-eq-true_iff}
 use mathlib.Core.List.{List, [], ◌∷◌, ◌++◌, flatten}
+use lib.Dec.{leb}
 use lib.ListN.{length, get_or, take, drop, set, replicate, length-take, length-drop, length-append}
 use lib.Seq.{sets, take_all}
 use borrow.Author.Tests.{eq-eqb, le-leb}
 use Rattle.std.specs.List.{list_all, zip}
-use Rattle.std.specs.Prelude.{Ok}
+use Rattle.std.specs.Prelude.{Result, Ok}
 use Rattle.std.proofs.lemmas.List.{get_or_default}
 use Rattle.std.proofs.lemmas.List.Sums.{AllPass-from_list_all}
 use Rattle.std.proofs.lemmas.Slice.Zip.{length-zip, get_or-zip}
 use Rattle.fiber_bytes.specs.Bytes.{part, le, le_bytes}
 use Rattle.fiber_bytes.proofs.CaseLaws.{by_each}
 use Rattle.fiber_bytes.proofs.BytesLaws.{part_length, sets_then, sets_fill, le_bytes_length}
+use Rattle.fiber_refusal.specs.declared.Refusal.{Refusal}
 use Rattle.fiber_types.specs.declared.tlc.Amount.{Amount}
 use Rattle.fiber_types.specs.declared.tlc.Tlc.{Tlc}
 use Rattle.fiber_types.specs.HashLen.{valid_hash_len}
-use Rattle.fiber_types.specs.Records.{amount_at, amount_bytes, wrote_tlc}
-use Rattle.fiber_types.proofs.RecordsLaws.{hash_len_small, amount_behind, tlc_bytes_length, tlc_written, outcome_whole}
+use Rattle.fiber_types.specs.Records.{Outcome, amount_at, amount_bytes, wrote_tlc}
+use Rattle.fiber_types.proofs.RecordsLaws.{hash_len_small, amount_behind, tlc_bytes_length, tlc_written, outcome_whole, outcome_length}
 use Rattle.fiber_witness.specs.Witness.{record_len, chunks}
 use Rattle.fiber_choice.specs.Entries.{same, same_lists, entries, all, settlement_len, tracked_len, tracked_record, tracked_records, valid_settlement, local_key, remote_key}
 use Rattle.fiber_choice.specs.FirstRecords.{hash_of, first_record, first_records, wrote_first_tlc, share_bytes, first_remote, first_local, first_state, wrote_first}
@@ -227,6 +229,14 @@ module _ (h : ℕ) (b : Bool) (s w : List ℕ) where
       ((ap valid_settlement first ∙ AllPass-from_list_all valid_settlement built_of v k [] few, ap length first ∙ even_at (entries_even settlement_len s) k few), ap length second ∙ even_at (entries_even (tracked_len h) w) k fewer)
 
 -- ---- the first state
+
+-- the output stays as long as it is
+pub wrote_length : (h : ℕ) (b : Bool) (d : SettlementData) (out : List ℕ) → length (wrote_first h b d out).bytes ≡ length out
+unfolding wrote_first
+wrote_length h b d out =
+    by_each (λ (o : Outcome (Result ℕ Refusal)). length o.bytes ≡ length out) (valid_hash_len h && valid_data d) _ _
+    (by_each (λ (o : Outcome (Result ℕ Refusal)). length o.bytes ≡ length out) (leb (length d.tlcs / 124) 255) _ _ (outcome_length true (first_state h b d) out) refl)
+    refl
 
 module _ (h : ℕ) (b : Bool) (d : SettlementData) (k : valid_hash_len h ≡ true) where
   -- two shares of 36 bytes

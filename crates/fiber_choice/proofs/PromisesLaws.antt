@@ -98,6 +98,11 @@ module _ (time time' : ℕ) (t : time ≤ time') where
       by_holds (λ x y. p' ≤ p → cond y (p' - 1) p' ≤ cond x (p - 1) p) (ltb ms time) (ltb ms time') (expired ms)
       (λ g. omega arith) (λ g. omega arith) (λ g. g)
 
+-- A TLC that its step chooses is chosen by it at every later time as well, in the same way and with the same key, however many are pending.
+pub later_time_step : (time time' place p p' : ℕ) (v : Verdict) (choice : Choice) (key : Key)
+    → time ≤ time' → step_of time place p v ≡ chooses choice key → step_of time' place p' v ≡ chooses choice key
+later_time_step time time' place p p' v choice key t e = subst (λ (s : Step). Steps place p p' s (step_of time' place p' v)) e (step_later time time' t place p p' v)
+
 -- ---- the walk
 
 -- a TLC that is chosen is behind a place

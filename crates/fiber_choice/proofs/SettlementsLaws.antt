@@ -24,8 +24,7 @@ use Rattle.fiber_choice.specs.Answered.{Answer, waiting, refused, Ready, begins,
 use Rattle.fiber_bytes.proofs.CaseLaws.{by_each}
 use Rattle.fiber_bytes.specs.Bytes.{part}
 use Rattle.fiber_since.specs.declared.epoch.Epoch.{Epoch}
-use Rattle.fiber_since.specs.Epoch.{within_bits, scaled}
-use Rattle.fiber_since.specs.inner.Bounds as BoundsCase
+use Rattle.fiber_since.specs.Epoch.{within_bits, scaled, Bounded}
 use Rattle.fiber_since.proofs.EpochLaws.{within}
 use Rattle.fiber_witness.specs.Witness.{record_len, chunks, member}
 use Rattle.fiber_witness.specs.Update.{Unlocked, fine, faulty, keep, standing, unlocked}
@@ -186,10 +185,10 @@ unfolding unsettled
 unsettled_same s t i zero e = refl
 unsettled_same s t i (suc n) e = rw (e i (omega arith), unsettled_same s t (i + 1) n (λ j h. e j (omega (arith, h))))
 
--- so marks leave what the list of settled places leaves
-pub unsettled_marked : (marks : List Bool) (s : List ℕ) → Marks marks s → (n : ℕ) → n ≤ length marks → unsettled (marked marks) 0 n ≡ unsettled s 0 n
+-- so marks leave what the list of settled places leaves, from any place on, among those that they say something of
+pub unsettled_marked : (marks : List Bool) (s : List ℕ) → Marks marks s → (i n : ℕ) → i + n ≤ length marks → unsettled (marked marks) i n ≡ unsettled s i n
 unfolding Marks
-unsettled_marked marks s m n g = unsettled_same (marked marks) s 0 n (λ j h. sym (marks_marked marks j (omega (arith, h, g))) ∙ m j (omega (arith, h, g)))
+unsettled_marked marks s m i n g = unsettled_same (marked marks) s i n (λ j h. sym (marks_marked marks j (omega (arith, h, g))) ∙ m j (omega (arith, h, g)))
 
 -- a row before the walk
 abbrev No : Ready → Type 0
@@ -321,7 +320,7 @@ module _ (q : Request) (w out : List ℕ) where
   by_left : (u : Unlocked) (x : StateLeft) → LeavesAs q.h w u (Ok x) → of_left x ≡ later_of q w out u
   unfolding LeavesAs later_of
   by_left (fine n share_place t) x j =
-      rw (j.stands, j.remote, j.local, unsettled_marked x.records.marks.now t.settled j.says (length x.records.marks.now) (omega arith), j.many)
+      rw (j.stands, j.remote, j.local, unsettled_marked x.records.marks.now t.settled j.says 0 (length x.records.marks.now) (omega arith), j.many)
   by_left (faulty p) x j = absurd j
 
   -- a witness that is turned down
@@ -403,10 +402,10 @@ module _ (q : Request) (full : Epoch) (r : Ready) (e : r ≡ first_ready q full)
   pub ready_many : length (settlement_tlcs q) ≡ length (tracked_tlcs q)
   ready_many = found.many
 
-  pub ready_bounded : within_bits q.header ≡ true → within_bits q.current ≡ true → BoundsCase.Bounded q.header × BoundsCase.Bounded q.current
+  pub ready_bounded : within_bits q.header ≡ true → within_bits q.current ≡ true → Bounded q.header × Bounded q.current
   ready_bounded a b = (within q.header a found.some.0, within q.current b found.some.1.0)
 
-  pub ready_full : within_bits full ≡ true → BoundsCase.Bounded full
+  pub ready_full : within_bits full ≡ true → Bounded full
   ready_full a = within full a found.some.1.1
 
 module _ (q : Request) (full : Epoch) (out : List ℕ) (r : Ready) (e : r ≡ first_ready q full) where

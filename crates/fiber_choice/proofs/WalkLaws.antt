@@ -96,6 +96,12 @@ pub reaches_first : (d : Dues) (n k : ℕ) → k ≡ n → ReachesAll (StageCase
 unfolding Reaches
 reaches_first d n k e place g = omega arith
 
+-- so either has what the places of the tracked TLCs ask, where a first one has no fewer settlement TLCs
+pub reaches_all : (stage : Stage) (n k : ℕ) → ((d : Dues) → stage ≡ StageCase.First d → n ≤ k) → ReachesAll stage n k
+unfolding Reaches
+reaches_all StageCase.Later n k e place g = tt
+reaches_all (StageCase.First d) n k e place g = omega (arith, e d refl, g)
+
 -- ---- what is chosen
 
 -- Among n TLCs, k settlement TLCs and m pairs. Where nothing is chosen nothing is said.

@@ -72,13 +72,13 @@ pub fn valid_tracked(h: HashLen, tracked: &[u8]) -> bool
     tracked_tlcs(h, tracked).all(|tlc| is_valid_tracked(tlc))
 }
 
-// The settlement TLCs and the two settlement keys.
+// The settlement TLCs and the two settlement keys. The list is gone through last, where no length turns the data down.
 #[tactic(auto, unfolding(fiber_choice::specs::Request::valid_data))]
 pub fn valid_data(lent: &SettlementData<'_>) -> bool
     ensures { result ≡ valid_data (data_of lent.now) }
 {
     lent.tlcs.len() % SETTLEMENT_TLC == 0
-        && valid_settlements(lent.tlcs)
         && lent.local_key.len() == KEY
         && lent.remote_key.len() == KEY
+        && valid_settlements(lent.tlcs)
 }

@@ -12,8 +12,8 @@ use Rattle.std.proofs.lemmas.Bool.{and_parts, or_parts, eqb-false}
 use Rattle.std.specs.Prelude.{Result, Ok, Err}
 use Rattle.fiber_refusal.specs.declared.Refusal.{Refusal}
 use Rattle.fiber_refusal.specs.declared.Refusal.TheVariants.{LengthZero, ScaledAbove, NotWell}
-use Rattle.fiber_since.specs.Epoch.{epoch_of, within_bits, units, factor, normalized, scaled, due, no_length, due_test}
-use Rattle.fiber_since.specs.inner.Bounds.{product, Bounded}
+use Rattle.fiber_since.specs.Epoch.{epoch_of, within_bits, units, factor, normalized, scaled, Bounded, due, no_length, due_test}
+use Rattle.fiber_since.specs.inner.Bounds.{product}
 
 -- ---- fractions
 

@@ -1,5 +1,5 @@
 -- Epochs: fields, scaling and the due test; docs/SCOPE.md, modules 2 to 4, with the numbers of its table.
-use Rattle.std.specs.Prelude.{ℕ, ◌+◌, ◌*◌, ◌/◌, ◌%◌, ◌^◌, Bool, cond, ◌&&◌, ◌||◌, eqb, ltb, leb, Result, Ok, Err}
+use Rattle.std.specs.Prelude.{ℕ, ◌+◌, ◌*◌, ◌/◌, ◌%◌, ◌^◌, ◌<◌, Bool, cond, ◌&&◌, ◌||◌, eqb, ltb, leb, Result, Ok, Err}
 use Rattle.fiber_refusal.specs.declared.Refusal.{Refusal}
 use Rattle.fiber_refusal.specs.declared.Refusal.TheVariants.{LengthZero, ScaledAbove, NotWell}
 use Rattle.fiber_since.specs.declared.epoch.Epoch.{Epoch}
@@ -43,6 +43,13 @@ scaled delay numerator denominator =
     (Err NotWell)
 
 -- ---- the due test
+
+-- what the due test has found before it compares: each field within its bits, and no length of 0
+pub record Bounded (e : Epoch) : Type 0 where
+  pub number : e.number < 16777216
+  pub index : e.index < 65536
+  pub length : e.length < 65536
+  pub some : 0 < e.length
 
 -- header + delay ≤ current, as fractions number + index / length, cross-multiplied
 unfoldable pub due : Epoch → Epoch → Epoch → Bool

@@ -1,5 +1,5 @@
 // Epochs that can be compared.
-ghost use Rattle.fiber_since.specs.inner.Bounds.{Bounded};
+ghost use Rattle.fiber_since.specs.Epoch.{Bounded};
 
 use crate::epoch::{Epoch, within_bits};
 use fiber_refusal::Refusal;

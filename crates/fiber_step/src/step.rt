@@ -1,11 +1,12 @@
 // One TLC of the walk. What it comes to is a verdict at a time, but the code looks for a key and hashes a preimage only where
 // that matters. Place and count go beside the TLC, and in no struct: a step names the one and answers the other.
-ghost use Rattle.std.specs.Prelude.{◌≡◌, true, false, ℕ, Option, ◌+◌, ◌<◌, length};
+ghost use Rattle.std.specs.Prelude.{◌≡◌, true, false, ℕ, Option, ◌≤◌, length};
 ghost use Rattle.fiber_choice.specs.Entries.{tracked_record, entries, pair_len};
-ghost use Rattle.fiber_choice.specs.Request.{settlement_tlcs, tracked_tlcs, pairs};
+ghost use Rattle.fiber_choice.specs.Request.{settlement_tlcs, pairs};
 ghost use Rattle.fiber_choice.specs.Preimages.{counting_pair};
 ghost use Rattle.fiber_choice.specs.Walk as W;
 ghost use Rattle.fiber_choice.specs.Verdicts as S;
+ghost use Rattle.fiber_choice.specs.inner.Plan.{Reaches};
 ghost use Rattle.fiber_choice.specs.inner.Request.{request_by};
 
 use crate::key::key_of;
@@ -106,7 +107,7 @@ fn later_preimage(
     match find_pair(q.preimages, tracked.hash()) {
         Some(pair_place) => match key_of(q, tracked) {
             Some(key) => {
-                if counts(q.preimages, pair_place, tracked) {
+                if counts(q.preimages, pair_place, tracked.bytes) {
                     return ready_step(pair_place, key, place);
                 }
                 falls_step(q.time, ms, pending)
@@ -170,7 +171,7 @@ fn first_step(
     if !dues.third {
         return ControlFlow::Continue(pending);
     }
-    match counting_pair(q.preimages, tracked) {
+    match counting_pair(q.preimages, tracked.bytes) {
         Some(pair_place) => ready_step(pair_place, place, place),
         None => {
             if dues.full {
@@ -182,14 +183,14 @@ fn first_step(
 }
 
 // The TLC at a place, of either settlement.
-#[tactic(auto, unfolding(fiber_choice::specs::Verdicts::verdict))]
+#[tactic(auto, unfolding(fiber_choice::specs::Verdicts::verdict, fiber_choice::specs::inner::Plan::Reaches))]
 pub fn step(
     walk: &Walk<'_>,
     tracked: &TrackedTlc<'_>,
     place: usize,
     pending: usize,
 ) -> ControlFlow<Chosen, usize>
-    requires { place < length (tracked_tlcs (request_by walk.now.q.now)) }
+    requires { (place ≤ 254) × Reaches walk.now.stage place (length (settlement_tlcs (request_by walk.now.q.now))) }
     ensures { result ≡ W.step_of walk.now.q.now.time place pending (S.verdict tracked.now.h.bytes walk.now.q.now.for_remote
         (settlement_tlcs (request_by walk.now.q.now)) (pairs (request_by walk.now.q.now)) walk.now.stage place tracked.now.bytes.now) }
 {

@@ -1,5 +1,5 @@
 // What the walk waits for where it chose none: the TLC at the place that it noted, and why that TLC is still pending. Only this TLC is looked at again.
-ghost use Rattle.std.specs.Prelude.{◌≡◌, List, ℕ, ◌<◌, length, IfSome};
+ghost use Rattle.std.specs.Prelude.{◌≡◌, List, ℕ, ◌<◌, length};
 ghost use Rattle.fiber_choice.specs.declared.kinds.Wait as WaitCase;
 ghost use Rattle.fiber_choice.specs.Request.{settlement_tlcs, tracked_tlcs};
 ghost use Rattle.fiber_choice.specs.Verdicts as S;
@@ -70,25 +70,26 @@ fn cause_of(walk: &Walk<'_>, tracked: &TrackedTlc<'_>, place: usize) -> Cause
     }
 }
 
-// The wait for the TLC at the place that the walk noted; where it noted none, for the delay.
+// The wait for the TLC at the place that the walk noted; where it noted none, or one at which no TLC is tracked, for the delay.
 pub fn wait_at(walk: &Walk<'_>, first: Option<usize>) -> Wait
-    requires { IfSome first (λ place. place < length (tracked_tlcs (request_by walk.now.q.now))) }
     ensures { (time : ℕ) (ps : List (List ℕ)) (w : WaitCase.Wait)
         → WaitsAt time (S.verdicts walk.now.q.now.h.bytes walk.now.q.now.for_remote (settlement_tlcs (request_by walk.now.q.now)) ps walk.now.stage 0
         (tracked_tlcs (request_by walk.now.q.now))) first w
         → result ≡ w }
 {
-    let Some(place) = first else {
-        return Wait::DelayNotDue;
-    };
     let q = walk.q;
-    let size = q.h.tracked_len();
-    let tracked = TrackedTlc {
-        h: q.h,
-        bytes: part_of(q.tracked, place * size, size),
-    };
-    Wait::Tlc {
-        place,
-        cause: cause_of(walk, &tracked, place),
+    match first {
+        Some(place) if place < q.tracked_count() => {
+            let size = q.h.tracked_len();
+            let tracked = TrackedTlc {
+                h: q.h,
+                bytes: part_of(q.tracked, place * size, size),
+            };
+            Wait::Tlc {
+                place,
+                cause: cause_of(walk, &tracked, place),
+            }
+        }
+        _ => Wait::DelayNotDue,
     }
 }

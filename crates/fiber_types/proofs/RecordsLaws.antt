@@ -135,6 +135,12 @@ outcome_by P bytes out f g = go (leb (length bytes) (length out)) refl
     go true e = rw e (f (leb-true (length bytes) (length out) e))
     go false e = rw e g
 
+-- the output stays as long as it is
+pub outcome_length : (ok : Bool) (bytes out : List ℕ) → length (outcome ok bytes out).bytes ≡ length out
+unfolding outcome
+outcome_length false bytes out = refl
+outcome_length true bytes out = outcome_by (λ o r. length o ≡ length out) bytes out (λ _. length-sets out 0 bytes) refl
+
 module _ (t : Tlc) (hash remote local : List ℕ) where
   pub tlc_bytes_length : length (tlc_bytes t hash remote local) ≡ 25 + (length hash + length remote + length local)
   unfolding tlc_bytes

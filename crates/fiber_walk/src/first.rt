@@ -1,7 +1,6 @@
 // The first settlement: the records are built from what the host lends, and walked in order.
 ghost use Rattle.std.specs.Prelude.{◌≡◌, true, ◌≤◌, length};
-ghost use Rattle.fiber_since.specs.Epoch.{scaled, within_bits};
-ghost use Rattle.fiber_since.specs.inner.Bounds.{Bounded};
+ghost use Rattle.fiber_since.specs.Epoch.{scaled, within_bits, Bounded};
 ghost use Rattle.fiber_types.specs.Records.{Gives};
 ghost use Rattle.fiber_choice.specs.Request.{settlement_tlcs, tracked_tlcs};
 ghost use Rattle.fiber_choice.specs.Verdicts.{dues_by};

@@ -124,10 +124,13 @@ unfolding keep
 keep_same s t i [] e = refl
 keep_same s t i (r ∷ rs) e = rw (e i (omega arith), keep_same s t (i + 1) rs (λ j h. e j (omega (arith, h))))
 
--- so marks keep what the list of settled places keeps
-pub keep_marked : (marks : List Bool) (s : List ℕ) → Marks marks s → (rs : List (List ℕ)) → length rs ≤ length marks → keep (marked marks) 0 rs ≡ keep s 0 rs
+-- so marks keep what the list of settled places keeps, of records whose places have a mark
+pub keep_marked_from : (marks : List Bool) (s : List ℕ) → Marks marks s → (i : ℕ) (rs : List (List ℕ)) → i + length rs ≤ length marks → keep (marked marks) i rs ≡ keep s i rs
 unfolding Marks
-keep_marked marks s m rs g = keep_same (marked marks) s 0 rs (λ j h. sym (marks_marked marks j (omega (arith, h, g))) ∙ m j (omega (arith, h, g)))
+keep_marked_from marks s m i rs g = keep_same (marked marks) s i rs (λ j h. sym (marks_marked marks j (omega (arith, h, g))) ∙ m j (omega (arith, h, g)))
+
+pub keep_marked : (marks : List Bool) (s : List ℕ) → Marks marks s → (rs : List (List ℕ)) → length rs ≤ length marks → keep (marked marks) 0 rs ≡ keep s 0 rs
+keep_marked marks s m rs g = keep_marked_from marks s m 0 rs (omega (arith, g))
 
 -- those kept from place i on, one place on
 pub keep_cons : (s : List ℕ) (rs : List (List ℕ)) (i : ℕ) → i < length rs

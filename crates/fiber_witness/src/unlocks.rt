@@ -10,8 +10,20 @@ use fiber_refusal::Refusal;
 use fiber_types::layout::{UNLOCK_LOCAL, UNLOCK_REMOTE};
 use fiber_types::unlock;
 
-// Takes the unlocks from the first on, in order, and marks the TLCs that they settle, of which each has a mark.
+// Takes the unlocks from the first on, in order, and marks the TLCs that they settle, of which each has a mark, and no other.
 pub fn take_unlocks(
+    w: &[u8],
+    first_unlock: usize,
+    settled: &mut [bool],
+) -> Result<UnlockedShares, Refusal>
+    ensures { (share_place : ℕ) → TakesAs (S.take_unlocks (length settled.new) share_place w.now S.none (places w.now first_unlock)) result settled.new }
+{
+    settled.fill(false);
+    take_unlocks_from_none(w, first_unlock, settled)
+}
+
+// The same where no mark is set, for `state_left`, which has just made them: to clear them once more would be a call of memset in each update.
+pub(crate) fn take_unlocks_from_none(
     w: &[u8],
     first_unlock: usize,
     settled: &mut [bool],

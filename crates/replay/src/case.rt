@@ -1,6 +1,10 @@
 // One line of the list: a call of a function of the C interface, and what the Rust answered, or of a journal change request W2's words.
+//
+// A line is packed into one buffer, whatever it has: a line that is no case is a call with what stands there, which then does not answer as told. Nothing
+// is turned down, and nothing allocates.
 
 use crate::kind::Kind;
+use fiber_bytes::{le64, part_of, put, put_le64};
 use journal_c::calls::{fiber_journal_append, fiber_journal_walk};
 use settlement_c::choose::fiber_settlement_choose;
 use settlement_c::first::fiber_settlement_first_state;
@@ -9,249 +13,227 @@ use settlement_c::lower::{
     fiber_settlement_key_hash, fiber_settlement_scale, fiber_settlement_sha256,
 };
 use settlement_c::settlement::{fiber_settlement_read, fiber_settlement_update};
-use std::alloc::Global;
-use std::io;
-use test_lines::{Field, unreadable};
+use test_lines::{number, unhex};
 
 // What every byte of the buffers is before a call, so that one written too many is seen.
 const UNTOUCHED: u8 = 165;
 
-// The inputs of a call: its numbers stand before its byte strings.
-#[derive(Debug, Drop)]
-struct Inputs {
-    numbers: Vec<u64>,
-    strings: Vec<Vec<u8>>,
-}
+// In a packed line the i-th input is at 8 i: a number, or where the bytes of a byte string start, all of which stand from here on.
+const TEXTS: usize = 256;
 
-impl Inputs {
-    fn parse(alloc: Global, fields: &str) -> io::Result<Inputs> {
-        let mut inputs = Inputs {
-            numbers: Vec::new(alloc),
-            strings: Vec::new(alloc),
-        };
-        for field in fields.split(' ') {
-            match Field::parse(alloc, field)? {
-                Field::Number(number) => inputs.numbers.push(number)?,
-                Field::Bytes(bytes) => inputs.strings.push(bytes)?,
-            }
-        }
-        Ok(inputs)
-    }
-}
+// The told status, and behind it the answer buffer and the output buffer.
+const STATUS: usize = 2048;
 
-#[derive(Debug, Drop)]
+const ANSWER: usize = 2056;
+
+const OUTPUT: usize = 2216;
+
+const MOST_ANSWER: usize = OUTPUT - ANSWER;
+
+const MOST_OUTPUT: usize = 1024;
+
+const PACKED: usize = OUTPUT + MOST_OUTPUT;
+
+// The status of a line whose kind is none.
+const NO_CALL: u64 = 999;
+
+// A line, packed: where the next field goes, and of an input where the bytes of the next byte string do.
+#[derive(Clone, Copy)]
 pub struct Case {
-    pub kind: Kind,
-    inputs: Inputs,
-    status: u64,
-    answer: Vec<u8>,
-    output: Vec<u8>,
-}
-
-// The bytes that fields stand for: of a number its eight, the low one first.
-fn bytes_of(alloc: Global, fields: &str) -> io::Result<Vec<u8>> {
-    let mut bytes = Vec::new(alloc);
-    for field in fields.split(' ') {
-        match Field::parse(alloc, field)? {
-            Field::Number(number) => bytes.extend_from_slice(&number.to_le_bytes())?,
-            Field::Bytes(more) => bytes.extend_from_slice(&more)?,
-        }
-    }
-    Ok(bytes)
-}
-
-// A byte by itself, a flag or an unlock's, as it is told.
-fn byte(number: u64) -> Option<u8> {
-    u8::try_from(number).ok()
-}
-
-// Whether a buffer begins as told, and is untouched behind that.
-fn holds(buffer: &[u8], told: &[u8]) -> bool {
-    match buffer.strip_prefix(told) {
-        Some(rest) => rest.iter().all(|b| *b == UNTOUCHED),
-        None => false,
-    }
+    kind: Option<Kind>,
+    bytes: [u8; PACKED],
+    at: usize,
+    end: Option<usize>,
 }
 
 impl Case {
-    pub fn parse(alloc: Global, line: &str) -> io::Result<Case> {
-        let (inputs, told) = line.split_once(" = ").ok_or_else(|| unreadable(line))?;
-        let (kind, inputs) = inputs.split_once(' ').ok_or_else(|| unreadable(line))?;
-        let (answers, output) = match told.split_once(" : ") {
-            Some((answers, output)) => (answers, bytes_of(alloc, output)?),
-            None => (told, Vec::new(alloc)),
+    // The case on a line whose first letter is given.
+    pub fn parse(letter: u8, line: &[u8]) -> Case {
+        let mut case = Case {
+            kind: Kind::named(letter),
+            bytes: [UNTOUCHED; PACKED],
+            at: 0,
+            end: Some(TEXTS),
         };
-        let (status, answer) = match answers.split_once(' ') {
-            Some((status, answer)) => (status, bytes_of(alloc, answer)?),
-            None => (answers, Vec::new(alloc)),
-        };
-        Ok(Case {
-            kind: kind.parse::<Kind>().map_err(|_| unreadable(line))?,
-            inputs: Inputs::parse(alloc, inputs)?,
-            status: status.parse::<u64>().map_err(|_| unreadable(line))?,
-            answer,
-            output,
-        })
+        for field in line.split(|b| *b == b' ').skip(1) {
+            case.add(field);
+        }
+        case
+    }
+
+    fn put_number(&mut self, number: u64) {
+        put_le64(&mut self.bytes, self.at, number);
+        self.at = self.at.saturating_add(8);
+    }
+
+    // Writes the bytes of a byte string, whose first letter is its mark, and answers where they end.
+    fn put_text(&mut self, at: usize, field: &[u8]) -> usize {
+        match self.bytes.get_mut(at..) {
+            Some(room) => at.saturating_add(unhex(part_of(field, 1, field.len()), room)),
+            None => at,
+        }
+    }
+
+    // Packs a byte string: of an input where it starts, and its bytes behind those of the others; of an answer its bytes.
+    fn add_text(&mut self, field: &[u8]) {
+        match self.end {
+            Some(end) => {
+                self.put_number(end as u64);
+                self.end = Some(self.put_text(end, field));
+            }
+            None => self.at = self.put_text(self.at, field),
+        }
+    }
+
+    // Packs a field. '=' ends the inputs, and so the last one's bytes; behind ':' is the output.
+    fn add(&mut self, field: &[u8]) {
+        match field.first() {
+            None => {}
+            Some(b'x') => self.add_text(field),
+            Some(b'=') => {
+                self.put_number(self.end.unwrap_or(0) as u64);
+                self.at = STATUS;
+                self.end = None;
+            }
+            Some(b':') => {
+                self.at = OUTPUT;
+                self.end = None;
+            }
+            Some(_) => self.put_number(number(field)),
+        }
+    }
+
+    // The i-th input: a number, a byte by itself, or a byte string.
+    fn number(&self, i: usize) -> u64 {
+        le64(&self.bytes, i.saturating_mul(8))
+    }
+
+    fn byte(&self, i: usize) -> u8 {
+        (self.number(i) % 256) as u8
+    }
+
+    fn text(&self, i: usize) -> &[u8] {
+        let from = self.number(i);
+        let to = self.number(i.saturating_add(1));
+        part_of(&self.bytes, from as usize, to.wrapping_sub(from) as usize)
     }
 
     // What the output buffer begins with before the call and after it: an append's is the journal's slice.
     fn lent(&self) -> &[u8] {
-        match (self.kind, self.inputs.strings.first()) {
-            (Kind::Append, Some(journal)) => journal.as_slice(),
+        match self.kind {
+            Some(Kind::Append) => self.text(6),
             _ => &[],
         }
     }
 
-    // Whether the port answers as told: status, answer and output, with what is behind them as it was. Where the inputs
-    // are not those of the call, it does not.
+    // Whether the port answers as told: status, answer and output, with what is behind them as it was.
     pub fn agrees(&self) -> bool {
-        let mut answer = [UNTOUCHED; 160];
-        let mut output = [UNTOUCHED; 1024];
-        self.call(&mut output, &mut answer) == Some(self.status)
-            && holds(&answer, &self.answer)
+        let mut answer = [UNTOUCHED; MOST_ANSWER];
+        let mut output = [UNTOUCHED; MOST_OUTPUT];
+        self.call(&mut output, &mut answer) == Some(le64(&self.bytes, STATUS))
+            && answer.as_slice() == part_of(&self.bytes, ANSWER, MOST_ANSWER)
             && output
                 .strip_prefix(self.lent())
-                .is_some_and(|rest| holds(rest, &self.output))
+                .is_some_and(|rest| rest == part_of(&self.bytes, OUTPUT, rest.len()))
     }
 
-    // The status of the call, whose output buffer is as long as the first number says.
+    // The status of the call, whose output buffer is as long as the first number says. None where there is no such room.
     fn call(&self, buffer: &mut [u8], answer: &mut [u8]) -> Option<u64> {
-        let (room, numbers) = self.inputs.numbers.split_first()?;
-        let out = buffer.get_mut(..*room as usize)?;
+        let out = buffer.get_mut(..self.number(0) as usize)?;
         let lent = self.lent();
         out.get_mut(..lent.len())?.copy_from_slice(lent);
-        let strings = self.inputs.strings.as_slice();
-        Some(match (self.kind, numbers, strings) {
-            (Kind::Mul, [number, index, length, numerator, denominator], []) => {
-                fiber_settlement_scale(*number, *index, *length, *numerator, *denominator, answer)
-            }
-            (
-                Kind::Due,
-                [
-                    header_number,
-                    header_index,
-                    header_length,
-                    delay_number,
-                    delay_index,
-                    delay_length,
-                    current_number,
-                    current_index,
-                    current_length,
-                ],
-                [],
-            ) => fiber_settlement_is_due(
-                *header_number,
-                *header_index,
-                *header_length,
-                *delay_number,
-                *delay_index,
-                *delay_length,
-                *current_number,
-                *current_index,
-                *current_length,
+        Some(match self.kind {
+            Some(Kind::Mul) => fiber_settlement_scale(
+                self.number(1),
+                self.number(2),
+                self.number(3),
+                self.number(4),
+                self.number(5),
                 answer,
             ),
-            (Kind::Expiry, [since], []) => fiber_settlement_expiry(*since, answer),
-            (Kind::Key, [], [key]) => fiber_settlement_key_hash(key, answer),
-            (Kind::Ckb, [], [message]) => {
-                fiber_settlement_ckb_hash(message, out.first_chunk_mut::<32>()?);
+            Some(Kind::Due) => fiber_settlement_is_due(
+                self.number(1),
+                self.number(2),
+                self.number(3),
+                self.number(4),
+                self.number(5),
+                self.number(6),
+                self.number(7),
+                self.number(8),
+                self.number(9),
+                answer,
+            ),
+            Some(Kind::Expiry) => fiber_settlement_expiry(self.number(1), answer),
+            Some(Kind::Key) => fiber_settlement_key_hash(self.text(1), answer),
+            Some(Kind::Ckb) => {
+                let mut digest = [0; 32];
+                fiber_settlement_ckb_hash(self.text(1), &mut digest);
+                put(out, 0, &digest);
                 0
             }
-            (Kind::Sha256, [], [message]) => {
-                fiber_settlement_sha256(message, out.first_chunk_mut::<32>()?);
+            Some(Kind::Sha256) => {
+                let mut digest = [0; 32];
+                fiber_settlement_sha256(self.text(1), &mut digest);
+                put(out, 0, &digest);
                 0
             }
-            (Kind::Read, [h], [witness]) => fiber_settlement_read(*h, witness, answer),
-            (Kind::Update, [h], [witness]) => fiber_settlement_update(*h, witness, out, answer),
-            (
-                Kind::First,
-                [
-                    h,
-                    for_remote,
-                    local_low,
-                    local_high,
-                    remote_low,
-                    remote_high,
-                ],
-                [tlcs, local_key, remote_key],
-            ) => fiber_settlement_first_state(
-                *h,
-                byte(*for_remote)?,
-                *local_low,
-                *local_high,
-                *remote_low,
-                *remote_high,
-                tlcs,
-                local_key,
-                remote_key,
+            Some(Kind::Read) => fiber_settlement_read(self.number(1), self.text(2), answer),
+            Some(Kind::Update) => fiber_settlement_update(
+                self.number(1),
+                self.text(2),
                 out,
                 answer,
             ),
-            (
-                Kind::Pick,
-                [
-                    h,
-                    for_remote,
-                    is_later,
-                    time,
-                    header_number,
-                    header_index,
-                    header_length,
-                    current_number,
-                    current_index,
-                    current_length,
-                    local_low,
-                    local_high,
-                    remote_low,
-                    remote_high,
-                ],
-                [
-                    args,
-                    tlcs,
-                    local_key,
-                    remote_key,
-                    tracked,
-                    preimages,
-                    witness,
-                ],
-            ) => fiber_settlement_choose(
-                *h,
-                byte(*for_remote)?,
-                byte(*is_later)?,
-                *time,
-                *header_number,
-                *header_index,
-                *header_length,
-                *current_number,
-                *current_index,
-                *current_length,
-                *local_low,
-                *local_high,
-                *remote_low,
-                *remote_high,
-                args,
-                tlcs,
-                local_key,
-                remote_key,
-                tracked,
-                preimages,
-                witness,
+            Some(Kind::First) => fiber_settlement_first_state(
+                self.number(1),
+                self.byte(2),
+                self.number(3),
+                self.number(4),
+                self.number(5),
+                self.number(6),
+                self.text(7),
+                self.text(8),
+                self.text(9),
                 out,
                 answer,
             ),
-            (Kind::Append, [length, unlock, flag, amount_low, amount_high], [_, channel]) =>
-                fiber_journal_append(
-                    out,
-                    *length,
-                    channel,
-                    byte(*unlock)?,
-                    byte(*flag)?,
-                    *amount_low,
-                    *amount_high,
-                    answer,
-                ),
-            (Kind::Walk, [length], [journal]) => fiber_journal_walk(journal, *length, out, answer),
-            _ => return None,
+            Some(Kind::Pick) => fiber_settlement_choose(
+                self.number(1),
+                self.byte(2),
+                self.byte(3),
+                self.number(4),
+                self.number(5),
+                self.number(6),
+                self.number(7),
+                self.number(8),
+                self.number(9),
+                self.number(10),
+                self.number(11),
+                self.number(12),
+                self.number(13),
+                self.number(14),
+                self.text(15),
+                self.text(16),
+                self.text(17),
+                self.text(18),
+                self.text(19),
+                self.text(20),
+                self.text(21),
+                out,
+                answer,
+            ),
+            Some(Kind::Append) => fiber_journal_append(
+                out,
+                self.number(1),
+                self.text(7),
+                self.byte(2),
+                self.byte(3),
+                self.number(4),
+                self.number(5),
+                answer,
+            ),
+            Some(Kind::Walk) => fiber_journal_walk(self.text(2), self.number(1), out, answer),
+            None => NO_CALL,
         })
     }
 }

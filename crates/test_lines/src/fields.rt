@@ -1,4 +1,4 @@
-// A field of a line, as `replay` and `forms` have them.
+// A field of a line, of a list that is read as text. No program takes it.
 
 ghost use Rattle.std.specs.Prelude.{◌≡◌, ◌⊎◌, IfOk, IfErr};
 ghost use Rattle.std.specs.IoError.{error_kind};

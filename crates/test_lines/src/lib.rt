@@ -1,6 +1,6 @@
 // Reads lists of test cases for the programs `vectors`, `replay` and `forms`, and for no other crate: a case to a line, fields parted by single blanks.
-// The programs read a list as text, and take `is_case`, `unreadable`, `decode`, `agrees`, `Field` and `Tally`. `read_full`, `find`, `number` and `unhex`
-// are for a list that is read into a lent buffer: they allocate nothing, and no program here takes them.
+// The programs read a list into a lent buffer, and take `read_full`, `find`, `number`, `unhex`, `agrees` and `Tally`: these allocate nothing. `is_case`,
+// `unreadable`, `decode` and `Field` are for a list that is read as text; no program here takes them.
 // Uses std alone.
 #![tactic(auto)]
 
@@ -32,7 +32,6 @@ pub fn unreadable(text: &str) -> io::Error
 }
 
 // Reads until the input ends or buf is full, and answers how many bytes now stand at the start of buf.
-// No program calls it: it brings a list into a lent buffer.
 pub fn read_full(input: &mut impl Read, buf: &mut [u8]) -> io::Result<usize>
     ensures { IfOk result (λ n. n ≤ length buf.new) }
 {
@@ -81,7 +80,6 @@ pub fn hex_at(s: &[u8], i: usize) -> u8
 }
 
 // Writes the bytes that s stands for to the front of out, as many as have room, and answers how many s has.
-// No program calls it: it is `decode` for a lent buffer, without the heap.
 pub fn unhex(s: &[u8], out: &mut [u8]) -> usize
     ensures value { result ≡ length s.now / 2 }
     ensures out_after { out.new ≡ sets out.old 0 (S.hex_bytes (length s.now / 2) s.now 0) }
@@ -95,7 +93,7 @@ pub fn unhex(s: &[u8], out: &mut [u8]) -> usize
 }
 
 // The bytes that s stands for. Not by the crate hex, which turns down an odd digit and a byte that is none: by `hex_at`, as `agrees` and `unhex` read,
-// so that all three take whatever a line has, and in the same way.
+// so that all three take whatever a line has, and in the same way. No program calls it: it is `unhex` for a list that is read as text, and needs the heap.
 pub fn decode(alloc: Global, s: &[u8]) -> Result<Vec<u8>, AllocError>
     ensures { IfOk result (λ v. v.items ≡ S.hex_bytes (length s.now / 2) s.now 0) }
 {
@@ -114,7 +112,6 @@ pub fn agrees(bytes: &[u8], s: &[u8]) -> bool
 }
 
 // A decimal number, modulo 2^64: `parse` would turn down what is too long, and a byte that is no digit.
-// No program calls it: it reads a field of a list in a lent buffer.
 pub fn number(s: &[u8]) -> u64
     ensures { result ≡ S.number_from 0 s.now }
 {
@@ -125,7 +122,6 @@ pub fn number(s: &[u8]) -> u64
 }
 
 // The first place from at on that holds b or ends the line.
-// No program calls it: it finds where a field of a list in a lent buffer ends.
 pub fn find(s: &[u8], at: usize, b: u8) -> usize
     ensures value { result ≡ S.find s.now at b }
     ensures lower_bound { (at ≤ result) × (result ≤ max at (length s.now)) }

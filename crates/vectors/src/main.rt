@@ -1,39 +1,52 @@
 // Runs the vectors of data/vectors.txt through the hashes and prints how many agree.
 //
 // A line is: the hash's name, a message in hexadecimal ('-' for no bytes), how often the message is repeated, and the
-// digest in hexadecimal. Empty lines, and lines that start with '#', are passed over.
-// A program; uses the lower face, test_lines, and std for the file.
+// digest in hexadecimal. A hash is known by its name's first letter. Lines that start with another one are passed over, and so are
+// empty lines and those that start with '#'.
+// A program; uses the lower face, test_lines, and std for the file. It reads into fixed buffers, so that it uses no heap.
 #![tactic(auto)]
 
-use std::alloc::{AllocError, Global};
-use std::collections::BTreeMap;
-use std::str::FromStr;
-use std::{fmt, fs, io};
-use test_lines::{Tally, agrees, decode, is_case, unreadable};
+ghost use Rattle.std.specs.Prelude.{◌≡◌, ◌≤◌, length};
 
-#[derive(Clone, Copy, Debug, PartialEq, Eq, PartialOrd, Ord)]
+use std::fs::File;
+use std::{fmt, io};
+use test_lines::{Tally, agrees, find, number, read_full, unhex};
+
+// Room for the list, and for the longest message. What is behind that in a longer list is not read.
+// The `ensures` gives only the length, which lending the array as a slice needs.
+fn buffer() -> [u8; 1_000_000]
+    ensures { 1000000 ≡ length result }
+{
+    [0; 1_000_000]
+}
+
+#[derive(Clone, Copy, Debug, PartialEq, Eq)]
 enum Hash {
     Blake2b,
     Ckb,
     Sha256,
 }
 
-// In the order in which they are printed.
-const HASHES: [Hash; 3] = [Hash::Blake2b, Hash::Ckb, Hash::Sha256];
+impl Hash {
+    // The hash whose name begins with a letter.
+    fn named(letter: u8) -> Option<Hash> {
+        match letter {
+            b'b' => Some(Hash::Blake2b),
+            b'c' => Some(Hash::Ckb),
+            b's' => Some(Hash::Sha256),
+            _ => None,
+        }
+    }
 
-// A name that is no hash's.
-#[derive(Clone, Copy, Debug)]
-struct UnknownHash;
-
-impl FromStr for Hash {
-    type Err = UnknownHash;
-
-    fn from_str(name: &str) -> Result<Self, UnknownHash> {
-        match name {
-            "blake2b-512" => Ok(Hash::Blake2b),
-            "ckb" => Ok(Hash::Ckb),
-            "sha256" => Ok(Hash::Sha256),
-            _ => Err(UnknownHash),
+    // Whether its digest of a message is the one in hexadecimal.
+    fn agrees(self, message: &[u8], digest: &[u8]) -> bool {
+        match self {
+            Hash::Blake2b => agrees(
+                &fiber_types::blake2b::blake2b(64, &[0; 16], message),
+                digest,
+            ),
+            Hash::Ckb => agrees(&fiber_types::blake2b::ckb_hash(message), digest),
+            Hash::Sha256 => agrees(&fiber_types::sha256::sha256(message), digest),
         }
     }
 }
@@ -48,66 +61,99 @@ impl fmt::Display for Hash {
     }
 }
 
+// A field, and what is behind the blank or the line's end that ends it. None where the list ends first.
+fn next_field(list: &[u8]) -> Option<(&[u8], &[u8])> {
+    let (field, rest) = list.split_at_checked(find(list, 0, b' '))?;
+    let (_, rest) = rest.split_first()?;
+    Some((field, rest))
+}
+
 // A line of the list, its bytes in hexadecimal as they stand there.
 #[derive(Clone, Copy, Debug)]
 struct Vector<'a> {
     hash: Hash,
-    message: &'a str,
-    times: usize,
-    digest: &'a str,
+    message: &'a [u8],
+    times: u64,
+    digest: &'a [u8],
 }
 
 impl<'a> Vector<'a> {
-    fn parse(line: &'a str) -> Option<Vector<'a>> {
-        let mut fields = line.split(' ');
-        let hash = fields.next()?.parse::<Hash>().ok()?;
-        let message = fields.next()?;
-        let times = fields.next()?.parse::<usize>().ok()?;
-        let digest = fields.next()?;
+    // The line that a list begins with. Fields that it lacks are those of the lines behind it; where the list ends before the digest's
+    // first place, it is none.
+    fn parse(list: &'a [u8]) -> Option<Vector<'a>> {
+        let (name, rest) = next_field(list)?;
+        let (message, rest) = next_field(rest)?;
+        let (times, rest) = next_field(rest)?;
         Some(Vector {
-            hash,
+            hash: Hash::named(*name.first()?)?,
             message,
-            times,
-            digest,
+            times: number(times),
+            digest: rest.get(..find(rest, 0, b' '))?,
         })
+    }
+
+    // Writes the repeated message to the front of out, and answers how many bytes it has: none where it has no room.
+    fn put_message(&self, out: &mut [u8]) -> usize
+        ensures { result ≤ length out.new }
+    {
+        let once = unhex(self.message, out);
+        let all = usize::try_from(self.times)
+            .ok()
+            .and_then(|times| once.checked_mul(times))
+            .unwrap_or(0);
+        if all < once || out.len() < all {
+            return 0;
+        }
+        for i in once..all {
+            out[i] = out[i - once];
+        }
+        all
     }
 
     // Whether the code's digest is the one on the line.
-    fn agrees(&self, alloc: Global) -> Result<bool, AllocError> {
-        let once = decode(alloc, self.message.as_bytes())?;
-        let message = once.repeat(alloc, self.times)?;
-        let digest = self.digest.as_bytes();
-        Ok(match self.hash {
-            Hash::Blake2b => agrees(
-                &fiber_types::blake2b::blake2b(64, &[0; 16], &message),
-                digest,
-            ),
-            Hash::Ckb => agrees(&fiber_types::blake2b::ckb_hash(&message), digest),
-            Hash::Sha256 => agrees(&fiber_types::sha256::sha256(&message), digest),
-        })
+    fn agrees(&self, out: &mut [u8]) -> bool {
+        let all = self.put_message(out);
+        self.hash.agrees(&out[..all], self.digest)
     }
 }
 
-// As in `replay`, but for how a line is read and what is counted apart; the line there says why it is no function of test_lines.
-fn tallies(alloc: Global, list: &str) -> io::Result<BTreeMap<Hash, Tally>> {
-    let mut tallies = BTreeMap::new(alloc);
-    for line in list.lines().filter(|line| is_case(line)) {
-        let vector = Vector::parse(line).ok_or_else(|| unreadable(line))?;
-        let agree = vector.agrees(alloc)?;
-        tallies
-            .entry(vector.hash)?
-            .or_insert(Tally::default())
-            .count(agree);
+// How many cases of each hash ran, and how many agreed.
+#[derive(Clone, Copy, Debug, Default)]
+struct Tallies {
+    blake2b: Tally,
+    ckb: Tally,
+    sha256: Tally,
+}
+
+impl Tallies {
+    fn count(&mut self, hash: Hash, agree: bool) {
+        match hash {
+            Hash::Blake2b => self.blake2b.count(agree),
+            Hash::Ckb => self.ckb.count(agree),
+            Hash::Sha256 => self.sha256.count(agree),
+        }
     }
-    Ok(tallies)
+
+    // Counts the lines of a list. By place, since a line that lacks fields reads on into the next.
+    fn count_list(&mut self, list: &[u8], out: &mut [u8]) {
+        let mut at = 0;
+        while at < list.len() {
+            if let Some(vector) = Vector::parse(&list[at..]) {
+                self.count(vector.hash, vector.agrees(out));
+            }
+            at = find(list, at, b'\n').saturating_add(1);
+        }
+    }
 }
 
 fn main(rt: HostRuntime) -> io::Result<()> {
-    let list = fs::read_to_string(&rt, "vectors.txt")?;
-    let tallies = tallies(rt.alloc(), list.as_str())?;
-    for hash in HASHES {
-        let tally = tallies.get(&hash).copied().unwrap_or_default();
-        println!(rt; "{hash}: {tally}")?;
-    }
-    Ok(())
+    let mut file = File::open(&rt, "vectors.txt")?;
+    let mut list = buffer();
+    let n = read_full(&mut file, &mut list)?;
+    let mut out = buffer();
+    let mut tallies = Tallies::default();
+    tallies.count_list(&list[..n], &mut out);
+    println!(rt; "{}: {}", Hash::Blake2b, tallies.blake2b)?;
+    println!(rt; "{}: {}", Hash::Ckb, tallies.ckb)?;
+    println!(rt; "{}: {}", Hash::Sha256, tallies.sha256)
 }

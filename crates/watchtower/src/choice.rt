@@ -43,10 +43,10 @@ fn valid_request(h: HashLen, q: &Request<'_>) -> bool
 {
     valid_data(&q.settlement)
         && q.tracked.len() % h.tracked_len() == 0
-        && valid_tracked(h, q.tracked)
         && q.preimages.len() % PAIR == 0
         && within_bits(q.header)
         && within_bits(q.current)
+        && valid_tracked(h, q.tracked)
 }
 
 // Chooses an unlock and hands it out: for a later settlement, whose witness is given, or for a first one, which has none. The unlock, the state before it

@@ -48,18 +48,18 @@ impl<'a> WitnessReader<'a> {
         let (part, remaining) = self.remaining.split_at_checked(n)?;
         Some((part, WitnessReader { remaining }))
     }
+}
 
-    // The reader of what is left behind an unlock; nothing where the unlock is cut short.
-    fn pass_unlock(self) -> Option<WitnessReader<'a>>
-        ensures { MatchOption result
-            (length self.entry.remaining.now < unlock_len self.entry.remaining.now 0)
-            (λ rest. (unlock_len self.entry.remaining.now 0 ≤ length self.entry.remaining.now)
-            × (rest.remaining.now ≡ drop (unlock_len self.entry.remaining.now 0) self.entry.remaining.now)) }
-    {
-        let (unlock, rest) = self.take(UNLOCK)?;
-        let (_, rest) = rest.take(preimage_len(unlock))?;
-        Some(rest)
-    }
+// The reader of what is left behind an unlock; nothing where the unlock is cut short.
+fn pass_unlock<'a>(reader: WitnessReader<'a>) -> Option<WitnessReader<'a>>
+    ensures { MatchOption result
+        (length reader.entry.remaining.now < unlock_len reader.entry.remaining.now 0)
+        (λ rest. (unlock_len reader.entry.remaining.now 0 ≤ length reader.entry.remaining.now)
+        × (rest.remaining.now ≡ drop (unlock_len reader.entry.remaining.now 0) reader.entry.remaining.now)) }
+{
+    let (unlock, rest) = reader.take(UNLOCK)?;
+    let (_, rest) = rest.take(preimage_len(unlock))?;
+    Some(rest)
 }
 
 // The unlocks to the end, of a witness with n TLCs. Each is at the place where what is left begins. n and the shares' place are the caller's, which
@@ -77,7 +77,7 @@ fn read_unlocks(
     let mut unlock_count = 0;
     // Where an unlock ends only itself says: an iterator's items would be Results with a place beside each.
     while !left.is_empty() {
-        let Some(next) = left.pass_unlock() else {
+        let Some(next) = pass_unlock(left) else {
             return Err(Refusal::UnlockCut(w.len() - left.remaining.len()));
         };
         left = next;

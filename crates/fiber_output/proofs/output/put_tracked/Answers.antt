@@ -1,11 +1,7 @@
 -- The marks are those of the tracked TLCs, so the records that stand by them are all but the one that is settled.
 use native.Mathlib.Omega.{arith}
-use Rattle.fiber_witness.proofs.UpdateLaws.{marks_none}
 use Rattle.fiber_choice.proofs.HandedLaws.{tracked_room, marks_tracked, unmarked_listed}
 use Rattle.fiber_output.proofs.output.put_tracked.Goals as goal
-
-pub mark-requires : goal.mark-requires
-mark-requires c = marks_none 256
 
 pub invariant_of-records : goal.invariant_of-records
 invariant_of-records c =

@@ -4,14 +4,8 @@ use mathlib.Core.Bool.{false≢true}
 use Rattle.fiber_choice.specs.Request.{pairs}
 use Rattle.fiber_choice.specs.inner.Request.{request_by}
 use Rattle.fiber_choice.proofs.WalkLaws.{picked_wait, picked_place}
-use Rattle.fiber_choice.proofs.WaitsLaws.{wait_place}
 use Rattle.fiber_walk.proofs.walk.walked.Goals as goal
 use Rattle.fiber_walk.proofs.walk.walked.Goals.{then-noted-eq0+else-may_share, else-noted-eq0}
-
-pub wait_at-requires : goal.wait_at-requires
-wait_at-requires c =
-    let q = request_by c.args.walk.now.q.now in
-    wait_place _ _ _ (pairs q) _ _ q.time _ _ (picked_place _ _ q.time _ (pairs q) _ _ _ c.noting.ensures _ c.in-Continue.is)
 
 pub returns-in-Continue-2 : goal.returns-in-Continue-2
 returns-in-Continue-2 c =

@@ -4,16 +4,16 @@ use mathlib.Core.Path.{ap}
 use lib.ListN.{length, length-take}
 use Rattle.fiber_witness.proofs.WitnessLaws.{unlock_long}
 use Rattle.witness_reader.proofs.ReaderLaws.{none_taken, some_taken, unlock_short, unlock_whole}
-use Rattle.witness_reader.proofs.WitnessReader.pass_unlock.Goals as goal
+use Rattle.witness_reader.proofs.pass_unlock.Goals as goal
 
 pub returns-in_err-unlock : goal.returns-in_err-unlock
 returns-in_err-unlock c =
-    let s = c.args.self.remaining.now in
+    let s = c.args.reader.remaining.now in
     rw c.from_residual.ensures (omega (arith, none_taken s 67 c.in_err-unlock.ensures, unlock_long s 0))
 
 pub preimage_len-requires : goal.preimage_len-requires
 preimage_len-requires c =
-    let s = c.args.self.remaining.now in
+    let s = c.args.reader.remaining.now in
     let p = some_taken s 67 _ _ c.in_ok-unlock.ensures in
     omega (arith, p.0, ap length p.1, length-take 67 s)
 

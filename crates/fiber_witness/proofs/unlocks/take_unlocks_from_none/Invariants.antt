@@ -3,7 +3,7 @@
 use Prim.Native.Nat.{◌-◌}
 use lib.ListN.{length}
 use Rattle.fiber_witness.proofs.UpdateLaws.{Taking}
-use Rattle.fiber_witness.proofs.unlocks.take_unlocks.Given as goal
+use Rattle.fiber_witness.proofs.unlocks.take_unlocks_from_none.Given as goal
 
 abbrev pub invariant-loop-at : goal.invariant-loop-at
 invariant-loop-at l = Taking (length l.initial.settled) l.w l.first_unlock l.settled l.remote l.local l.at
