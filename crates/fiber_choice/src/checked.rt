@@ -1,8 +1,7 @@
-// A request that rows 14 and 10 let pass: hashes of a length that a channel can have, as a type, settlement TLCs whose two flags are 0 or 1, lock args of
-// at least 36 bytes, and epochs within their bits, which is what the walk needs of them. Its other fields are the request's, by their names.
-ghost use Rattle.std.specs.Prelude.{◌≡◌, true, ◌≤◌, length};
-ghost use Rattle.fiber_since.specs.Epoch.{within_bits};
-ghost use Rattle.fiber_choice.specs.Entries.{entries, tracked_len, all, valid_settlement, settlement_len};
+// A request whose hashes have a length that a channel can have, as a type. Its other fields are the request's, by their names. What rows 14 and 10 have seen
+// of them is no field here: what is public and needs some of it asks for that, and for no more.
+ghost use Rattle.std.specs.Prelude.{◌≡◌, length};
+ghost use Rattle.fiber_choice.specs.Entries.{entries, tracked_len};
 
 use crate::request::SettlementData;
 use fiber_types::epoch::Epoch;
@@ -21,10 +20,6 @@ pub struct Checked<'a> {
     pub settlement: SettlementData<'a>,
     pub tracked: &'a [u8],
     pub preimages: &'a [u8],
-    ghost args_long: { 36 ≤ length args.now },
-    ghost tlcs_valid: { all valid_settlement (entries settlement_len settlement.tlcs.now) ≡ true },
-    ghost header_within: { within_bits header ≡ true },
-    ghost current_within: { within_bits current ≡ true },
 }
 
 impl<'a> Checked<'a> {

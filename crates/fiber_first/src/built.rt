@@ -73,6 +73,7 @@ fn is_record_of(h: HashLen, for_remote: bool, tlc: &[u8], tracked: &[u8]) -> boo
 
 // Whether the records of the settlement TLCs are those of the tracked list, one for one.
 pub fn same_as_tracked(q: &Checked<'_>) -> bool
+    requires { all valid_settlement (entries settlement_len q.now.settlement.tlcs.now) ≡ true }
     ensures { result ≡ same_lists (S.first_records q.now.h.bytes q.now.for_remote (entries settlement_len q.now.settlement.tlcs.now))
         (tracked_records (entries (tracked_len q.now.h.bytes) q.now.tracked.now)) }
 {

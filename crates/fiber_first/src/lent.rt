@@ -1,5 +1,5 @@
 // The lists that the host lends. Row 14 looks at all of them.
-ghost use Rattle.std.specs.Prelude.{◌≡◌, get_or};
+ghost use Rattle.std.specs.Prelude.{◌≡◌, ◌≤◌, get_or};
 ghost use Rattle.fiber_choice.specs.Entries as S;
 ghost use Rattle.fiber_choice.specs.Request.{data_of, valid_data};
 ghost use Rattle.fiber_first.specs.inner.Left.{left};
@@ -7,7 +7,7 @@ ghost use Rattle.fiber_first.specs.inner.Left.{left};
 use crate::entries::Entries;
 use fiber_choice::request::SettlementData;
 use fiber_types::hash_len::HashLen;
-use fiber_types::layout::{KEY, PAIR, SETTLEMENT_TLC, TRACKED_ALGORITHM};
+use fiber_types::layout::{KEY, PAIR, SETTLEMENT_TLC, TRACKED_ALGORITHM, TRACKED_FIXED};
 
 // Three lists of one type: what differs is how long an entry is, a constant or by the channel's hashes, which `Entries` holds as a number.
 pub fn settlement_tlcs(tlcs: &[u8]) -> Entries<'_>
@@ -66,10 +66,15 @@ pub fn valid_settlements(tlcs: &[u8]) -> bool
     settlement_tlcs(tlcs).all(|tlc| is_valid_settlement(tlc))
 }
 
-pub fn valid_tracked(h: HashLen, tracked: &[u8]) -> bool
-    ensures { result ≡ S.all S.valid_tracked (S.entries (S.tracked_len h.bytes) tracked.now) }
+pub fn valid_tracked(h: usize, tracked: &[u8]) -> bool
+    requires { h ≤ 32 }
+    ensures { result ≡ S.all S.valid_tracked (S.entries (S.tracked_len h) tracked.now) }
 {
-    tracked_tlcs(h, tracked).all(|tlc| is_valid_tracked(tlc))
+    let mut tlcs = Entries {
+        rest: tracked,
+        size: TRACKED_FIXED + h,
+    };
+    tlcs.all(|tlc| is_valid_tracked(tlc))
 }
 
 // The settlement TLCs and the two settlement keys. The list is gone through last, where no length turns the data down.

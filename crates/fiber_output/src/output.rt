@@ -82,7 +82,7 @@ fn put_tracked(
         source: q.tracked,
         from: TRACKED_RECORD,
         stride: q.h.tracked_len(),
-        h: q.h,
+        h: q.h.bytes,
         marks,
         standing: count_standing(marks),
     };

@@ -17,7 +17,6 @@ use fiber_choice::checked::Checked;
 use fiber_choice::kinds::{Choice, Chosen, Dues, Key, Stage, Way};
 use fiber_choice::settlement::SettlementTlc;
 use fiber_choice::tracked::TrackedTlc;
-use fiber_choice::walk::Walk;
 use fiber_types::since::absolute_expiry;
 use std::ops::ControlFlow;
 
@@ -182,24 +181,25 @@ fn first_step(
     }
 }
 
-// The TLC at a place, of either settlement.
+// The TLC at a place, of either settlement. It takes the two parts of a `Walk`, which says of every TLC what is asked here of one.
 #[tactic(auto, unfolding(fiber_choice::specs::Verdicts::verdict, fiber_choice::specs::inner::Plan::Reaches))]
 pub fn step(
-    walk: &Walk<'_>,
+    q: &Checked<'_>,
+    stage: Stage,
     tracked: &TrackedTlc<'_>,
     place: usize,
     pending: usize,
 ) -> ControlFlow<Chosen, usize>
-    requires { (place ≤ 254) × Reaches walk.now.stage place (length (settlement_tlcs (request_by walk.now.q.now))) }
-    ensures { result ≡ W.step_of walk.now.q.now.time place pending (S.verdict tracked.now.h.bytes walk.now.q.now.for_remote
-        (settlement_tlcs (request_by walk.now.q.now)) (pairs (request_by walk.now.q.now)) walk.now.stage place tracked.now.bytes.now) }
+    requires { (place ≤ 254) × Reaches stage place (length (settlement_tlcs (request_by q.now))) }
+    ensures { result ≡ W.step_of q.now.time place pending (S.verdict tracked.now.h.bytes q.now.for_remote
+        (settlement_tlcs (request_by q.now)) (pairs (request_by q.now)) stage place tracked.now.bytes.now) }
 {
     // A match, and no trait or closure: document 01 tells two settlements apart, and what differs is one call.
-    match walk.stage {
+    match stage {
         Stage::First(dues) => {
-            let tlc = settlement_tlc(walk.q, place);
-            first_step(walk.q, dues, &tlc, tracked, place, pending)
+            let tlc = settlement_tlc(q, place);
+            first_step(q, dues, &tlc, tracked, place, pending)
         }
-        Stage::Later => later_step(walk.q, tracked, place, pending),
+        Stage::Later => later_step(q, tracked, place, pending),
     }
 }

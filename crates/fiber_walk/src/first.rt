@@ -2,6 +2,7 @@
 ghost use Rattle.std.specs.Prelude.{◌≡◌, true, ◌≤◌, length};
 ghost use Rattle.fiber_since.specs.Epoch.{scaled, within_bits, Bounded};
 ghost use Rattle.fiber_types.specs.Records.{Gives};
+ghost use Rattle.fiber_choice.specs.Entries.{entries, all, valid_settlement, settlement_len};
 ghost use Rattle.fiber_choice.specs.Request.{settlement_tlcs, tracked_tlcs};
 ghost use Rattle.fiber_choice.specs.Verdicts.{dues_by};
 ghost use Rattle.fiber_choice.specs.Settlements as S;
@@ -72,6 +73,7 @@ fn dues_by(
 fn first_thirds(q: &Checked<'_>, full: Comparable, out: &mut [u8]) -> Result<Decision, NoChoice>
     requires few { length (tracked_tlcs (request_by q.now)) ≤ 254 }
     requires as_many { length (settlement_tlcs (request_by q.now)) ≡ length (tracked_tlcs (request_by q.now)) }
+    requires args_long { 36 ≤ length q.now.args.now }
     requires bounded { Bounded q.now.header × Bounded q.now.current }
     ensures { Gives (S.first_thirds (request_by q.now) out.old full.epoch (scaled full.epoch 1 3) (scaled full.epoch 2 3)) result out.new }
 {
@@ -107,6 +109,7 @@ fn first_thirds(q: &Checked<'_>, full: Comparable, out: &mut [u8]) -> Result<Dec
 // Rows 7, 12 and 20.
 #[tactic(auto, using(fiber_choice::proofs::EntriesLaws::entries_length), unfolding(fiber_choice::specs::Settlements::first_ready, fiber_choice::specs::Settlements::lengths_zero))]
 fn first_ready(q: &Checked<'_>, full: Epoch) -> Result<(), NoChoice>
+    requires { all valid_settlement (entries settlement_len q.now.settlement.tlcs.now) ≡ true }
     ensures { result ≡ S.first_ready (request_by q.now) full }
 {
     if any_zero(&[q.header, q.current, full]) {
@@ -125,7 +128,8 @@ fn first_ready(q: &Checked<'_>, full: Epoch) -> Result<(), NoChoice>
 // A first settlement: the rows before the walk, then the walk.
 #[tactic(auto, using(fiber_choice::proofs::SettlementsLaws::ready_few, fiber_choice::proofs::SettlementsLaws::ready_many, fiber_choice::proofs::SettlementsLaws::ready_bounded, fiber_choice::proofs::SettlementsLaws::ready_full))]
 pub fn choose_first(q: &Checked<'_>, full: Epoch, out: &mut [u8]) -> Result<Decision, NoChoice>
-    requires { within_bits full ≡ true }
+    requires valid { (all valid_settlement (entries settlement_len q.now.settlement.tlcs.now) ≡ true) × (36 ≤ length q.now.args.now) }
+    requires within { (within_bits q.now.header ≡ true) × ((within_bits q.now.current ≡ true) × (within_bits full ≡ true)) }
     ensures { Gives (S.first (request_by q.now) full out.old) result out.new }
 {
     first_ready(q, full)?;

@@ -133,6 +133,7 @@ fn later_choice(q: &Checked<'_>, last: bool) -> Result<Chosen, Wait>
 
 // What follows the witness's own unlocks: the rows before the walk, the walk, and what is handed out.
 fn later_state(q: &Checked<'_>, left: &StateLeft<'_>, out: &mut [u8]) -> Result<Decision, NoChoice>
+    requires { 36 ≤ length q.now.args.now }
     ensures { Gives (S.later_state (request_by q.now) out.old (standing_of left.now.records)
         (S.unsettled (marked left.now.records.marks.now) 0 (length left.now.records.marks.now)) left.now.shares.remote.now left.now.shares.local.now) result out.new }
 {
@@ -148,6 +149,7 @@ fn later_state(q: &Checked<'_>, left: &StateLeft<'_>, out: &mut [u8]) -> Result<
 
 // A later settlement: the witness is read and its unlocks are taken first.
 pub fn choose_later(q: &Checked<'_>, w: &[u8], out: &mut [u8]) -> Result<Decision, NoChoice>
+    requires { 36 ≤ length q.now.args.now }
     ensures { Gives (S.later (request_by q.now) w.now out.old) result out.new }
 {
     let mut marks = UNMARKED;

@@ -40,7 +40,7 @@ fn noting(walk: &Walk<'_>) -> ControlFlow<Chosen, Noted>
             h: q.h,
             bytes: tracked_tlc,
         };
-        let left = step(walk, &tracked, place, pending)?;
+        let left = step(q, walk.stage, &tracked, place, pending)?;
         first = noted(place, pending, left, first);
         pending = left;
     }

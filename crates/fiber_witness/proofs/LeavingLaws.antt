@@ -44,20 +44,20 @@ even_strided size stride (suc m) s from g =
 module _ (r : Records) where
   -- they are as many as their count says
   pub standing_count : r.standing ≡ length (standing_of r)
-  standing_count = r.counted ∙ unmarked_count r.h.bytes r.source.now r.from r.stride r.marks.now
+  standing_count = r.counted ∙ unmarked_count r.h r.source.now r.from r.stride r.marks.now
 
   -- and as long as they are many
-  pub standing_bytes : length (flatten (standing_of r)) ≡ r.standing * record_len r.h.bytes
+  pub standing_bytes : length (flatten (standing_of r)) ≡ r.standing * record_len r.h
   unfolding unmarked
   standing_bytes =
-      flatten_even (even_keep (marked r.marks.now) 0 (even_strided (record_len r.h.bytes) r.stride (length r.marks.now) r.source.now r.from r.whole))
-      ∙ ap (λ (k : ℕ). k * record_len r.h.bytes) (sym standing_count)
+      flatten_even (even_keep (marked r.marks.now) 0 (even_strided (record_len r.h) r.stride (length r.marks.now) r.source.now r.from r.whole))
+      ∙ ap (λ (k : ℕ). k * record_len r.h) (sym standing_count)
 
   -- which is no more than a byte counts
-  pub standing_small : r.standing * record_len r.h.bytes ≤ 255 * 97
+  pub standing_small : r.standing * record_len r.h ≤ 255 * 97
   standing_small =
-      let many : r.standing ≤ 255 = omega (arith, standing_count, unmarked_few r.h.bytes r.source.now r.from r.stride (length r.marks.now) r.marks.now, r.few) in
-      let size : record_len r.h.bytes ≤ 97 = omega (arith, r.h.small) in
+      let many : r.standing ≤ 255 = omega (arith, standing_count, unmarked_few r.h r.source.now r.from r.stride (length r.marks.now) r.marks.now, r.few) in
+      let size : record_len r.h ≤ 97 = omega (arith, r.short) in
       mul-le-mul many size
 
 -- ---- a witness that is read
@@ -110,18 +110,19 @@ module _ {h : ℕ} {w : List ℕ} {l : WitnessLayout} {marks : List Bool} (read 
   left_faulty r j = subst (λ (u : Unlocked). LeavesAs h w u (Err r)) (sym (takes_faulty r marks (unlocks_come (length marks) l.share_place w none (places w l.first_unlock)) j) ∙ all_taken) refl
 
   -- every unlock is taken, and the marks say what was settled
-  pub left_fine : (v : UnlockedShares) → TakesAs taken (Ok v) marks → (x : StateLeft) → x.records.marks.now ≡ marks
+  pub left_fine : (v : UnlockedShares) → TakesAs taken (Ok v) marks → (x : StateLeft) → x.records.h ≡ h → x.records.marks.now ≡ marks
       → standing_of x.records ≡ unmarked h w 2 (record_len h) (length marks) marks
       → x.shares.remote.now ≡ share_left v.remote (part w l.share_place 36)
       → x.shares.local.now ≡ share_left v.local (part w (l.share_place + 36) 36)
       → LeavesAs h w (unlocked h w) (Ok x)
   unfolding LeavesAs standing
-  left_fine v j x m s f g = go (takes_all v marks (unlocks_come (length marks) l.share_place w none (places w l.first_unlock)) j)
+  left_fine v j x k m s f g = go (takes_all v marks (unlocks_come (length marks) l.share_place w none (places w l.first_unlock)) j)
     where
       go : All (length marks) l.share_place marks v.remote v.local taken → LeavesAs h w (unlocked h w) (Ok x)
       go t =
           subst (λ (u : Unlocked). LeavesAs h w u (Ok x)) (sym t.is ∙ all_taken)
           (record {
+            hashes = k;
             many = ap length m;
             says = rw m t.says;
             stands = s ∙ unmarked_standing h w (length marks) marks

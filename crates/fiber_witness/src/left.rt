@@ -41,7 +41,7 @@ pub fn state_left<'a>(
         source: w,
         from: 2,
         stride: h.record_len(),
-        h,
+        h: h.bytes,
         standing: count_standing(marks),
         marks,
     };
@@ -55,6 +55,6 @@ impl StateLeft<'_> {
     pub fn state_len(&self) -> usize
         ensures { result ≡ 73 + length (flatten (standing_of self.now.records)) }
     {
-        STATE_FIXED + self.records.standing * self.records.h.record_len()
+        STATE_FIXED + self.records.standing * self.records.record_len()
     }
 }

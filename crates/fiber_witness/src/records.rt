@@ -1,7 +1,7 @@
 // Records in a list in which they stand a fixed number of bytes apart: those of a witness, or of the tracked TLCs. As an iterator, those of them that stand.
 ghost use Rattle.std.specs.Prelude.{◌≡◌, ◌+◌, ◌*◌, ◌≤◌, length, not, count_by};
 
-use fiber_types::hash_len::HashLen;
+use fiber_types::layout::RECORD_FIXED;
 
 // The first is at `from`; each has a mark, and those that are marked do not stand any more.
 #[derive(Clone, Copy)]
@@ -9,14 +9,24 @@ pub struct Records<'a> {
     pub source: &'a [u8],
     pub from: usize,
     pub stride: usize,
-    pub h: HashLen,
+    pub h: usize,
     pub marks: &'a [bool],
     // how many stand, which whoever makes one counts for the room that it asks
     pub standing: usize,
+    ghost short: { h ≤ 32 },
     ghost few: { length marks.now ≤ 255 },
     ghost near: { stride ≤ 130 },
-    ghost whole: { from + length marks.now * stride + (65 + h.bytes) ≤ length source.now + stride },
+    ghost whole: { from + length marks.now * stride + (65 + h) ≤ length source.now + stride },
     ghost counted: { standing ≡ count_by not marks.now },
+}
+
+impl Records<'_> {
+    // The bytes of a record.
+    pub(crate) fn record_len(&self) -> usize
+        ensures { result ≡ 65 + self.now.h }
+    {
+        RECORD_FIXED + self.h
+    }
 }
 
 impl<'a> Iterator for Records<'a> {
@@ -38,7 +48,7 @@ impl<'a> Iterator for Records<'a> {
             self.marks = others;
             if !*settled {
                 self.standing -= 1;
-                return Some(&self.source[at..at + self.h.record_len()]);
+                return Some(&self.source[at..at + self.record_len()]);
             }
         }
         None

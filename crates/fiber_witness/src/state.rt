@@ -28,7 +28,7 @@ fn put_records(records: &Records<'_>, out: &mut [u8]) -> usize
     ensures value { result ≡ 1 + length (flatten (standing_of records.now)) }
     ensures out_after { out.new ≡ sets out.old 1 (flatten (standing_of records.now)) }
 {
-    let size = records.h.record_len();
+    let size = records.record_len();
     let source = records.source;
     let mut from = records.from;
     let mut at = 1;

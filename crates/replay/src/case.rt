@@ -37,9 +37,23 @@ const PACKED: usize = OUTPUT + MOST_OUTPUT;
 // The status of a line whose kind is none.
 const NO_CALL: u64 = 999;
 
+// Whether the port answers as a line tells, whose first letter is given. The line is packed where the case stands: answered as a value, it would be copied.
+pub fn agrees(letter: u8, line: &[u8]) -> bool {
+    let mut case = Case {
+        kind: Kind::named(letter),
+        bytes: [UNTOUCHED; PACKED],
+        at: 0,
+        end: Some(TEXTS),
+    };
+    for field in line.split(|b| *b == b' ').skip(1) {
+        case.add(field);
+    }
+    case.agrees()
+}
+
 // A line, packed: where the next field goes, and of an input where the bytes of the next byte string do.
 #[derive(Clone, Copy)]
-pub struct Case {
+struct Case {
     kind: Option<Kind>,
     bytes: [u8; PACKED],
     at: usize,
@@ -47,20 +61,6 @@ pub struct Case {
 }
 
 impl Case {
-    // The case on a line whose first letter is given.
-    pub fn parse(letter: u8, line: &[u8]) -> Case {
-        let mut case = Case {
-            kind: Kind::named(letter),
-            bytes: [UNTOUCHED; PACKED],
-            at: 0,
-            end: Some(TEXTS),
-        };
-        for field in line.split(|b| *b == b' ').skip(1) {
-            case.add(field);
-        }
-        case
-    }
-
     fn put_number(&mut self, number: u64) {
         put_le64(&mut self.bytes, self.at, number);
         self.at = self.at.saturating_add(8);
@@ -127,7 +127,7 @@ impl Case {
     }
 
     // Whether the port answers as told: status, answer and output, with what is behind them as it was.
-    pub fn agrees(&self) -> bool {
+    fn agrees(&self) -> bool {
         let mut answer = [UNTOUCHED; MOST_ANSWER];
         let mut output = [UNTOUCHED; MOST_OUTPUT];
         self.call(&mut output, &mut answer) == Some(le64(&self.bytes, STATUS))

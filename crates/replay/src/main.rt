@@ -11,7 +11,6 @@ ghost use Rattle.std.specs.Prelude.{◌≡◌, length};
 mod case;
 mod kind;
 
-use case::Case;
 use fiber_bytes::part_of;
 use std::fs::File;
 use std::io;
@@ -47,7 +46,7 @@ impl Group {
             None | Some(b'#') => return Ok(()),
             Some(letter) => *letter,
         };
-        let agree = Case::parse(letter, line).agrees();
+        let agree = case::agrees(letter, line);
         if letter != self.letter {
             self.print(rt)?;
             rt.write_all(part_of(line, 0, find(line, 0, b' ')))?;

@@ -46,7 +46,7 @@ fn valid_request(h: HashLen, q: &Request<'_>) -> bool
         && q.preimages.len() % PAIR == 0
         && within_bits(q.header)
         && within_bits(q.current)
-        && valid_tracked(h, q.tracked)
+        && valid_tracked(h.bytes, q.tracked)
 }
 
 // Chooses an unlock and hands it out: for a later settlement, whose witness is given, or for a first one, which has none. The unlock, the state before it
@@ -61,7 +61,7 @@ pub fn choose(q: &Request<'_>, witness: Option<&[u8]>, out: &mut [u8]) -> Result
         return Err(NoChoice::Refused(Refusal::NotWell));
     }
     let full = delay_of(q.args)?;
-    // Lent here, to both settlements alike: what it says of its fields is then shown once.
+    // Lent here, to both settlements alike.
     let checked = &Checked {
         h,
         for_remote: q.for_remote,

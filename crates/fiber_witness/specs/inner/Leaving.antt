@@ -7,8 +7,9 @@ use Rattle.fiber_witness.specs.Update.{Taken, Unlocked, fine, faulty, share_left
 use Rattle.fiber_witness.specs.inner.Marks.{Marks}
 use Rattle.fiber_witness.specs.inner.Records.{standing_of}
 
--- the records that stand of n TLCs, the marks by which they do, and the shares that stood at a place
+-- the records that stand of n TLCs, whose hashes have h bytes, the marks by which they do, and the shares that stood at a place
 pub record Leaves (h : ℕ) (w : List ℕ) (n share_place : ℕ) (t : Taken) (x : StateLeft) : Type 0 where
+  pub hashes : x.records.h ≡ h
   pub many : length x.records.marks.now ≡ n
   pub says : Marks x.records.marks.now t.settled
   pub stands : standing_of x.records ≡ standing h w n t.settled

@@ -4,4 +4,4 @@ use Rattle.fiber_witness.specs.declared.records.Records.{Records}
 use Rattle.fiber_witness.specs.inner.Strided.{unmarked}
 
 abbrev pub standing_of : Records → List (List ℕ)
-standing_of r = unmarked r.h.bytes r.source.now r.from r.stride (length r.marks.now) r.marks.now
+standing_of r = unmarked r.h r.source.now r.from r.stride (length r.marks.now) r.marks.now

@@ -23,7 +23,7 @@ all-requires-clause-callable c =
     (YieldsList-from_zip (entries_yield (ap left c.zip.ensures.first ∙ c.settlement_tlcs.ensures)) (entries_yield (ap left c.zip.ensures.second ∙ c.tracked_tlcs.ensures)))
     (λ x q r. search (rules, tests))
     (λ x k g e.
-    let p = pair_well a.h.bytes a.for_remote a.settlement.tlcs.now a.tracked.now a.tlcs_valid k x.0.now x.1.now g e in
+    let p = pair_well a.h.bytes a.for_remote a.settlement.tlcs.now a.tracked.now c.requires k x.0.now x.1.now g e in
     search rules)
 
 pub returns-then-tlcs-tracked_count : goal.returns-then-tlcs-tracked_count

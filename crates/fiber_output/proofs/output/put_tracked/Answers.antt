@@ -8,6 +8,7 @@ invariant_of-records c =
     let a = c.args.lent.now in
     let long = marks_tracked a.q.now.h.bytes a.q.now.tracked.now _ c.mark.new.marks (omega (arith, a.few, c.tracked_count.ensures)) c.tracked_count.ensures in
     record {
+      short = a.q.now.h.small;
       few = omega (arith, long, c.tracked_count.ensures, a.few);
       near = omega (arith, c.tracked_len.ensures, a.q.now.h.small);
       whole = rw (long, c.tracked_count.ensures, c.tracked_len.ensures) (omega (arith, tracked_room a.q.now.h.bytes a.q.now.tracked.now));

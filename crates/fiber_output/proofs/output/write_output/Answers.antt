@@ -15,12 +15,12 @@ returns-then-out-size c =
     let a = c.args.lent.now in
     rw c.record_len.ensures
     (handed_short a.q.now.h.bytes a.q.now.args.now a.q.now.tracked.now a.q.now.preimages.now a.shares.remote.now a.shares.local.now _ _ _ c.tracked_count-n.ensures c.plan_of-p.ensures
-    a.q.now.args_long a.shares.remote_36 a.shares.local_36 c.requires _ _ _ _ _ _ (c.witness_len-unlock_len.ensures ∙ ap (λ (u : Unlock). witness_len u.flag) c.unlock_of.ensures) c.new_args_len-args_len.ensures _ (rw c.record_len.ensures at c.if-out-size.true))
+    a.args_long a.shares.remote_36 a.shares.local_36 c.requires _ _ _ _ _ _ (c.witness_len-unlock_len.ensures ∙ ap (λ (u : Unlock). witness_len u.flag) c.unlock_of.ensures) c.new_args_len-args_len.ensures _ (rw c.record_len.ensures at c.if-out-size.true))
 
 pub returns : goal.returns
 returns c =
     let a = c.args.lent.now in
     rw c.record_len.ensures
     (handed_whole a.q.now.h.bytes a.q.now.args.now a.q.now.tracked.now a.q.now.preimages.now a.shares.remote.now a.shares.local.now _ _ _ c.tracked_count-n.ensures c.plan_of-p.ensures
-    a.q.now.args_long a.shares.remote_36 a.shares.local_36 c.requires _ _ _ _ _ _ (c.witness_len-unlock_len.ensures ∙ ap (λ (u : Unlock). witness_len u.flag) c.unlock_of.ensures) c.new_args_len-args_len.ensures _ (rw c.record_len.ensures at c.if-out-size.false)
+    a.args_long a.shares.remote_36 a.shares.local_36 c.requires _ _ _ _ _ _ (c.witness_len-unlock_len.ensures ∙ ap (λ (u : Unlock). witness_len u.flag) c.unlock_of.ensures) c.new_args_len-args_len.ensures _ (rw c.record_len.ensures at c.if-out-size.false)
     _ _ _ c.amount_of.ensures c.record_size.ensures c.put_joined.ensures)

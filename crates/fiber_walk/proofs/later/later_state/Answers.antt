@@ -23,7 +23,7 @@ returns-in_err-chosen c =
     rw (passed_on _ c.from_residual-in_err-chosen.ensures.1) (state_nothing (begun (goal.at.returns-in_err-chosen c).After-later_ready) c.in_ok-later_ready.was c.later_choice.ensures _ _ _ c.in_err-chosen.was)
 
 pub invariant_of-lent : goal.invariant_of-lent
-invariant_of-lent c = record { few = state_few (begun (goal.at.invariant_of-lent c).After-later_ready) c.in_ok-later_ready.was }
+invariant_of-lent c = record { few = state_few (begun (goal.at.invariant_of-lent c).After-later_ready) c.in_ok-later_ready.was; args_long = c.requires }
 
 pub write_output-requires : goal.write_output-requires
 write_output-requires c = state_within (begun (goal.at.write_output-requires c).After-later_ready) c.in_ok-later_ready.was c.later_choice.ensures c.in_ok-chosen.was

@@ -31,6 +31,7 @@ pub invariant_of-records : goal.invariant_of-records
 invariant_of-records c =
     let read = whole (goal.at.invariant_of-records c).After-take_unlocks_from_none in
     record {
+      short = c.args.h.small;
       few = left_few read;
       near = omega (arith, c.record_len.ensures, c.args.h.small);
       whole = rw c.record_len.ensures (omega (arith, left_room read));
@@ -40,4 +41,4 @@ invariant_of-records c =
 pub returns : goal.returns
 returns c =
     left_fine (whole (goal.at.returns c).After-take_unlocks_from_none) _ (rw c.in_ok-taken.was at (c.take_unlocks_from_none.ensures c.in_ok-layout.layout.share_place))
-    _ refl (rw c.record_len.ensures refl) (rw c.at.ensures.remote at c.left-shares.ensures.remote) (rw c.at.ensures.local at c.left-shares.ensures.local)
+    _ refl refl (rw c.record_len.ensures refl) (rw c.at.ensures.remote at c.left-shares.ensures.remote) (rw c.at.ensures.local at c.left-shares.ensures.local)

@@ -7,4 +7,4 @@ use Rattle.fiber_witness.proofs.state.put_records.Given as goal
 abbrev pub invariant-loop-settled : goal.invariant-loop-settled
 invariant-loop-settled l =
     let r = l.records in
-    Putting r.h.bytes r.source.now r.stride r.marks.now (flatten (standing_of r)) l.initial.out l.out l.from l.at l.settled-index
+    Putting r.h r.source.now r.stride r.marks.now (flatten (standing_of r)) l.initial.out l.out l.from l.at l.settled-index

@@ -12,7 +12,7 @@ pub overflow_cast-out : goal.overflow_cast-out
 overflow_cast-out c =
     let r = c.args.records.now in
     let n = length r.marks.now in
-    omega (arith, r.few, r.counted, unmarked_few r.h.bytes r.source.now r.from r.stride n r.marks.now, unmarked_count r.h.bytes r.source.now r.from r.stride r.marks.now)
+    omega (arith, r.few, r.counted, unmarked_few r.h r.source.now r.from r.stride n r.marks.now, unmarked_count r.h r.source.now r.from r.stride r.marks.now)
 
 pub returns : goal.returns
 returns c =
@@ -22,6 +22,6 @@ returns c =
     let p = c.put_records-at in (
       omega (arith, p.ensures.value, state_size rs s.remote.now s.local.now s.remote_36 s.local_36),
       state_puts rs s.remote.now s.local.now s.remote_36 s.local_36 _ _ _ _ _ _
-          (r.counted ∙ unmarked_count r.h.bytes r.source.now r.from r.stride r.marks.now)
+          (r.counted ∙ unmarked_count r.h r.source.now r.from r.stride r.marks.now)
           p.ensures.value p.ensures.out_after c.put.ensures c.put-2.ensures,
     )

@@ -35,14 +35,19 @@ returns-in_err-full c =
 passed : (c : In_ok-full) → (valid_request (request_of c.args.q.now) ≡ true) × (delay_of c.args.q.now.args.now ≡ Ok c.in_ok-full.full)
 passed c = (sym c.valid_request.ensures ∙ c.if-not-valid_request.false, sym c.delay_of.ensures ∙ c.in_ok-full.was)
 
-pub invariant_of-checked : goal.invariant_of-checked
-invariant_of-checked c =
-    let p = passed (goal.at.invariant_of-checked c).In_ok-full in
-    let l = valid (request_of c.args.q.now) p.0 in
-    record { args_long = (delay_epoch _ _ p.1).0; tlcs_valid = l.entries; header_within = l.header; current_within = l.current }
+pub choose_later-requires : goal.choose_later-requires
+choose_later-requires c = (delay_epoch _ _ (passed (goal.at.choose_later-requires c).In_ok-full).1).0
 
-pub choose_first-requires : goal.choose_first-requires
-choose_first-requires c = (delay_epoch _ _ (passed (goal.at.choose_first-requires c).In_ok-full).1).1
+pub choose_first-requires-clause-valid : goal.choose_first-requires-clause-valid
+choose_first-requires-clause-valid c =
+    let p = passed (goal.at.choose_first-requires-clause-valid c).In_ok-full in
+    ((valid (request_of c.args.q.now) p.0).entries, (delay_epoch _ _ p.1).0)
+
+pub choose_first-requires-clause-within : goal.choose_first-requires-clause-within
+choose_first-requires-clause-within c =
+    let p = passed (goal.at.choose_first-requires-clause-within c).In_ok-full in
+    let l = valid (request_of c.args.q.now) p.0 in
+    (l.header, (l.current, (delay_epoch _ _ p.1).1))
 
 pub returns-in-Some : goal.returns-in-Some
 returns-in-Some c =
